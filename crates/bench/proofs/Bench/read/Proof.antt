@@ -1,0 +1,64 @@
+-- `Bench::read` meets its contract: where the request is accepted, the stores show as its effect; where it is refused, the record is as it came.
+-- Assumes nothing.
+use mathlib.Core.Path.{_≡_}
+use borrow.Author.Needs.{needs}
+use lib.ListN.{length}
+use Rattle.rules.specs.ReadWrite.{read}
+use Rattle.bench.specs.View.{viewed}
+use Rattle.bench.proofs.Steps.{step-refused}
+use Rattle.bench.proofs.Accepts.{read-accepted}
+use Rattle.bench.proofs.Bench.read.Statement.{statement}
+use Rattle.bench.proofs.Bench.read.Tie as tie
+
+read-answer-requires : tie.Need-read-answer-requires
+read-answer-requires c κs = search needs
+
+cast-at : tie.Need-cast-at
+cast-at c = search needs
+
+mul-with : tie.Need-mul-with
+mul-with c = search needs
+
+element-copy-out-with : tie.Need-element-copy-out-with
+element-copy-out-with c = search needs
+
+cast-with : tie.Need-cast-with
+cast-with c = search needs
+
+with-requires : tie.Need-with-requires
+with-requires c κs = search needs
+
+mul-self : tie.Need-mul-self
+mul-self c = search needs
+
+element-write-self : tie.Need-element-write-self
+element-write-self c = search needs
+
+returns : tie.Need-returns
+returns c =
+    let answered = c .before .before in
+    let s = answered .before .before .before .before .before .before .before in
+    let args = s .args in
+    let long : length (args .t1 .reads) ≡ 128 = search (needs, s .good) in
+    read-accepted (args .t1) (answered .before .read-answer .result) (args .a) (args .i)
+    (c .with .result) long (c .with .ensures) (answered .before .read-answer .ensures) (answered .if1 .taken)
+
+returns-2 : tie.Need-returns-2
+returns-2 c =
+    let args = c .before .before .before .before .before .before .before .args in
+    step-refused (viewed (args .t1)) (read (args .a) (args .i)) (c .before .read-answer .result) (c .before .read-answer .ensures) (c .if1 .left)
+
+pub read-spec : {M : Type 1} → statement M
+read-spec =
+    tie.close
+    (tie.spec
+    read-answer-requires
+    cast-at
+    mul-with
+    element-copy-out-with
+    cast-with
+    with-requires
+    mul-self
+    element-write-self
+    returns
+    returns-2)

@@ -1,0 +1,54 @@
+-- `read_answer` meets its contract: 7 where the soundness test fails, and else the row of the owners in the write set. Assumes nothing.
+use borrow.Author.Needs.{needs}
+use Rattle.rules.specs.ReadWrite.{read}
+use Rattle.bench.specs.View.{view}
+use Rattle.bench.proofs.Steps.{answer-unsound}
+use Rattle.bench.proofs.Rows.{read-requires, read-answered}
+use Rattle.bench.proofs.answers.read_answer.Statement.{statement}
+use Rattle.bench.proofs.answers.read_answer.Tie as tie
+
+sound-requires : tie.Need-sound-requires
+sound-requires c κs = search needs
+
+returns : tie.Need-returns
+returns c =
+    let args = c .before .before .args in
+    answer-unsound (view (args .parents .now) (args .states .now) (args .reads .now) (args .writes .now))
+    (read (args .a) (args .i)) (c .before .sound .result) (c .before .sound .ensures) (c .if1 .taken)
+
+cast-at : tie.Need-cast-at
+cast-at c = search needs
+
+mul-ask-row : tie.Need-mul-ask-row
+mul-ask-row c = search needs
+
+element-copy-out-ask-row : tie.Need-element-copy-out-ask-row
+element-copy-out-ask-row c = search needs
+
+ask-row-requires : tie.Need-ask-row-requires
+ask-row-requires c κs =
+    let asked = c .before in
+    let sound = asked .before .sound in
+    let args = asked .before .before .args in
+    read-requires (args .parents .now) (args .states .now) (args .reads .now)
+    (args .writes .now) (sound .result) (sound .ensures) (asked .if1 .left) (args .i)
+
+returns-2 : tie.Need-returns-2
+returns-2 c =
+    let asked = c .before .before in
+    let sound = asked .before .sound in
+    let args = asked .before .before .args in
+    read-answered (args .parents .now) (args .states .now) (args .reads .now) (args .writes .now) (sound .result)
+    (sound .ensures) (asked .if1 .left) (args .a) (args .i) (c .ask-row .result) (c .ask-row .ensures)
+
+pub read-answer-spec : {M : Type 1} → statement M
+read-answer-spec =
+    tie.close
+    (tie.spec
+    sound-requires
+    returns
+    cast-at
+    mul-ask-row
+    element-copy-out-ask-row
+    ask-row-requires
+    returns-2)

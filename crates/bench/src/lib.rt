@@ -1,0 +1,218 @@
+// The bench: 64 action numbers, 128 instruments, six requests by Moss's rules.
+pub mod answers;
+mod clear;
+mod index;
+mod sound;
+mod tree;
+
+use answers::ACCEPTED;
+use index::COMMITTED;
+use index::RUNNING;
+ghost use mathlib.Core.Path.{_≡_};
+ghost use mathlib.Core.Bool.{true};
+ghost use Prim.Native.Nat.{_<_};
+ghost use Rattle.rules.specs.Bench.{empty};
+ghost use Rattle.rules.specs.Owners.{inFamily};
+ghost use Rattle.rules.specs.Sound.{sound};
+ghost use Rattle.rules.specs.Requests.{openTop, openSub, commit, abort, without};
+ghost use Rattle.rules.specs.Answers.{step};
+ghost use Rattle.rules.specs.ReadWrite.{readWrite, read, write};
+ghost use Rattle.bench.specs.View.{viewed, seen};
+
+// Parents and states over 64 numbers, read and write sets over 128 instruments. A parent's byte is 0 for none and else one more than the parent's
+// number; a state's byte is 0 free, 1 running, 2 committed; a set's bit k is number k.
+pub struct Bench {
+    pub parents: [u8; 64],
+    pub states: [u8; 64],
+    pub reads: [u64; 128],
+    pub writes: [u64; 128],
+}
+
+// What a request hands back: the next bench and the answer's number.
+pub struct Reply {
+    pub bench: Bench,
+    pub answer: u8,
+}
+
+impl Bench {
+    // How many action numbers there are, and how many instruments.
+    pub const ACTIONS: u32 = 64;
+
+    pub const INSTRUMENTS: u32 = 128;
+
+    // An empty bench: all numbers free and all sets empty.
+    pub fn empty() -> Bench
+        ensures { λ r. ⌜ viewed r ≡ empty ⌝ }
+    {
+        Bench {
+            parents: [0u8; 64],
+            states: [0u8; 64],
+            reads: [0u64; 128],
+            writes: [0u64; 128],
+        }
+    }
+
+    // Whether the record is sound: rules 1 to 4.
+    pub fn is_sound(self) -> bool
+        ensures { λ r. ⌜ r ≡ sound readWrite (viewed self) ⌝ }
+    {
+        sound::sound(&self.parents, &self.states, &self.reads, &self.writes)
+    }
+
+    // Makes n a running top action.
+    pub fn open_top(mut self, n: u32) -> Reply
+        ensures { λ r. ⌜ seen r ≡ step readWrite (viewed self) (openTop n) ⌝ }
+    {
+        let answer = answers::open_top_answer(
+            &self.parents,
+            &self.states,
+            &self.reads,
+            &self.writes,
+            n,
+        );
+        if answer == ACCEPTED {
+            let at = (n % 64) as usize;
+            self.states[at] = RUNNING;
+        }
+        Reply {
+            bench: self,
+            answer: answer,
+        }
+    }
+
+    // Makes n a running action with parent p.
+    pub fn open_sub(mut self, n: u32, p: u32) -> Reply
+        ensures { λ r. ⌜ seen r ≡ step readWrite (viewed self) (openSub n p) ⌝ }
+    {
+        let answer = answers::open_sub_answer(
+            &self.parents,
+            &self.states,
+            &self.reads,
+            &self.writes,
+            n,
+            p,
+        );
+        if answer == ACCEPTED {
+            let at = (n % 64) as usize;
+            self.states[at] = RUNNING;
+            self.parents[at] = (p % 64) as u8 + 1;
+        }
+        Reply {
+            bench: self,
+            answer: answer,
+        }
+    }
+
+    // Adds a to the read set of instrument i.
+    pub fn read(mut self, a: u32, i: u32) -> Reply
+        ensures { λ r. ⌜ seen r ≡ step readWrite (viewed self) (read a i) ⌝ }
+    {
+        let answer = answers::read_answer(
+            &self.parents,
+            &self.states,
+            &self.reads,
+            &self.writes,
+            a,
+            i,
+        );
+        if answer == ACCEPTED {
+            let at = (i % 128) as usize;
+            self.reads[at] = sets::with(self.reads[at], (a % 64) as usize);
+        }
+        Reply {
+            bench: self,
+            answer: answer,
+        }
+    }
+
+    // Adds a to the write set of instrument i.
+    pub fn write(mut self, a: u32, i: u32) -> Reply
+        ensures { λ r. ⌜ seen r ≡ step readWrite (viewed self) (write a i) ⌝ }
+    {
+        let answer = answers::write_answer(
+            &self.parents,
+            &self.states,
+            &self.reads,
+            &self.writes,
+            a,
+            i,
+        );
+        if answer == ACCEPTED {
+            let at = (i % 128) as usize;
+            self.writes[at] = sets::with(self.writes[at], (a % 64) as usize);
+        }
+        Reply {
+            bench: self,
+            answer: answer,
+        }
+    }
+
+    // a and all its descendants become free and leave all sets.
+    fn without_family(mut self, a: usize) -> Bench
+        requires { ⌜ (sound readWrite (viewed self) ≡ true) × (a < 64) ⌝ }
+        ensures { λ r. ⌜ viewed r ≡ without (inFamily readWrite (viewed self) a) (viewed self) ⌝ }
+    {
+        let gone = tree::family(&self.parents, a);
+        clear::clear_bytes(&mut self.parents, gone);
+        clear::clear_bytes(&mut self.states, gone);
+        clear::clear_sets(&mut self.reads, gone);
+        clear::clear_sets(&mut self.writes, gone);
+        self
+    }
+
+    // A sub becomes committed and no owner set changes; a top and all its descendants become free and leave all sets.
+    pub fn commit(mut self, a: u32) -> Reply
+        ensures { λ r. ⌜ seen r ≡ step readWrite (viewed self) (commit a) ⌝ }
+    {
+        let answer = answers::commit_answer(
+            &self.parents,
+            &self.states,
+            &self.reads,
+            &self.writes,
+            a,
+        );
+        if answer != ACCEPTED {
+            return Reply {
+                bench: self,
+                answer: answer,
+            };
+        }
+        let at = (a % 64) as usize;
+        if self.parents[at] == 0 {
+            let next = self.without_family(at);
+            return Reply {
+                bench: next,
+                answer: answer,
+            };
+        }
+        self.states[at] = COMMITTED;
+        Reply {
+            bench: self,
+            answer: answer,
+        }
+    }
+
+    // a and all its descendants, running or committed, become free and leave all sets.
+    pub fn abort(mut self, a: u32) -> Reply
+        ensures { λ r. ⌜ seen r ≡ step readWrite (viewed self) (abort a) ⌝ }
+    {
+        let answer = answers::abort_answer(
+            &self.parents,
+            &self.states,
+            &self.reads,
+            &self.writes,
+            a,
+        );
+        if answer == ACCEPTED {
+            let freed = tree::family(&self.parents, (a % 64) as usize);
+            clear::clear_bytes(&mut self.parents, freed);
+            clear::clear_bytes(&mut self.states, freed);
+            clear::clear_sets(&mut self.reads, freed);
+            clear::clear_sets(&mut self.writes, freed);
+        }
+        Reply {
+            bench: self,
+            answer: answer,
+        }
+    }
+}

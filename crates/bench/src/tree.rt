@@ -1,0 +1,133 @@
+// The tree of actions, on parents and states: running children, the line of ancestors, heirs, and families. These rely on a sound bench.
+use crate::index::RUNNING;
+use crate::index::wide;
+ghost use mathlib.Core.Path.{_≡_};
+ghost use mathlib.Core.Bool.{true, false, _&&_};
+ghost use mathlib.Core.Option.{some};
+ghost use Prim.Native.Nat.{ℕ, _<_};
+ghost use lib.Dec.{eqb};
+ghost use lib.ListN.{length, getD};
+ghost use Rattle.sets.specs.Sets.{member};
+ghost use Rattle.rules.specs.Tests.{any};
+ghost use Rattle.rules.specs.Bench.{isFree, isRunning};
+ghost use Rattle.rules.specs.Owners.{heir};
+ghost use Rattle.rules.specs.ReadWrite.{readWrite};
+ghost use Rattle.bench.specs.View.{stateOf};
+ghost use Rattle.bench.specs.Parts.{tree, SoundTree, SoundParents, InUse, ownersInLine, inLine, descends, adopted, Grown};
+
+// Whether a number whose parent's byte is `parent` runs.
+pub(crate) fn running_child<'a>(parents: &'a [u8; 64], states: &'a [u8; 64], parent: u8) -> bool
+    ensures { λ r. ⌜ r ≡ any 64 (λ k. eqb (getD (now (states .entry)) k 0) 1 && eqb (getD (now (parents .entry)) k 0) parent) ⌝ }
+{
+    let mut found = false;
+    for k in 0..64usize {
+        found = found | ((states[k] == RUNNING) & (parents[k] == parent));
+    }
+    found
+}
+
+// The asker and its ancestors, as a set.
+fn line_of(parents: &[u8; 64], a: usize) -> u64
+    requires { ⌜ SoundParents (now parents) × (a < 64) ⌝ }
+    ensures { λ r. ⌜ ((k : ℕ) → member r k ≡ inLine (now (parents .entry)) a k) ⌝ }
+{
+    let mut line = sets::with(0, a);
+    let mut up = wide(parents[a]);
+    while up != 0 {
+        let p = up - 1;
+        line = sets::with(line, p);
+        up = wide(parents[p]);
+    }
+    line
+}
+
+// The heir of a number that isn't free: the nearest running one among itself and its ancestors.
+fn heir<'a>(parents: &'a [u8; 64], states: &'a [u8; 64], k: usize) -> usize
+    requires { ⌜ SoundTree (now parents) (now states) × (k < 64) × (isFree (stateOf (getD (now states) k 0)) ≡ false) ⌝ }
+    ensures { λ r. ⌜ heir readWrite (tree (now (parents .entry)) (now (states .entry))) k ≡ some r ⌝ }
+{
+    let mut x = k;
+    while states[x] != RUNNING {
+        x = wide(parents[x]) - 1;
+    }
+    x
+}
+
+// Whether the heir of each owner is the asker or an ancestor of it.
+pub(crate) fn heirs_in_line<'a>(
+    parents: &'a [u8; 64],
+    states: &'a [u8; 64],
+    owners: u64,
+    a: usize,
+) -> bool
+    requires { ⌜ SoundTree (now parents) (now states) × InUse (now states) owners × (a < 64) × (isRunning (stateOf (getD (now states) a 0)) ≡ true) ⌝ }
+    ensures { λ r. ⌜ r ≡ ownersInLine (now (parents .entry)) (now (states .entry)) owners a ⌝ }
+{
+    if owners == 0 {
+        return true;
+    }
+    let line = line_of(parents, a);
+    let mut rest = sets::difference(owners, line);
+    while rest != 0 {
+        let k = sets::least(rest);
+        let h = heir(parents, states, k);
+        if !sets::member(line, h) {
+            return false;
+        }
+        rest = sets::without(rest, k);
+    }
+    true
+}
+
+// The set with k where the number that k's parent byte names is in it.
+fn adopting(set: u64, k: usize, up: u8) -> u64
+    ensures { λ r. ⌜ r ≡ adopted set k up ⌝ }
+{
+    if up == 0 {
+        return set;
+    }
+    if sets::member(set, wide(up - 1)) {
+        return sets::with(set, k);
+    }
+    set
+}
+
+// The set with its numbers' children, and with the children that those bring in on the way.
+fn with_children(parents: &[u8; 64], set: u64) -> u64
+    requires { ⌜ SoundParents (now parents) ⌝ }
+    ensures { λ r. ⌜ Grown (now (parents .entry)) set r ⌝ }
+{
+    let mut grown = set;
+    for k in 0..64usize {
+        grown = adopting(grown, k, parents[k]);
+    }
+    grown
+}
+
+// Whether a number has the parent's byte `parent`.
+fn has_child(parents: &[u8; 64], parent: u8) -> bool
+    ensures { λ r. ⌜ r ≡ any 64 (λ k. eqb (getD (now (parents .entry)) k 0) parent) ⌝ }
+{
+    let mut found = false;
+    for k in 0..64usize {
+        found = found | (parents[k] == parent);
+    }
+    found
+}
+
+// a and all its descendants, gathered in one set.
+pub(crate) fn family(parents: &[u8; 64], a: usize) -> u64
+    requires { ⌜ SoundParents (now parents) × (a < 64) × (length (now parents) ≡ 64) ⌝ }
+    ensures { λ r. ⌜ ((k : ℕ) → member r k ≡ descends (now (parents .entry)) a k) ⌝ }
+{
+    let mut set = sets::with(0, a);
+    if !has_child(parents, (a % 64) as u8 + 1) {
+        return set;
+    }
+    let mut grown = with_children(parents, set);
+    while grown != set {
+        set = grown;
+        grown = with_children(parents, set);
+    }
+    set
+}

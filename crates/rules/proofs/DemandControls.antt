@@ -1,0 +1,145 @@
+-- Controls of demand 2: both machines computed on document 01's sessions and on a small table, and near variants of them that a list of requests
+-- tells apart from the step.
+use mathlib.Core.Path.{_≡_, refl, sym, _∙_, ap}
+use mathlib.Core.Bool.{Bool, true, false, _&&_}
+use mathlib.Core.List.{List, [], _∷_, _++_, map}
+use Prim.Native.Nat.{ℕ}
+use lib.Dec.{eqb}
+use borrow.Author.Tests.{eq-eqb}
+use Rattle.rules.specs.Tests.{if_then_else_, all, any}
+use Rattle.rules.specs.Bench.{Bench, empty}
+use Rattle.rules.specs.Owners.{above, isAncestor, inFamily, nearest, heir, isOwner, isAskerOrAncestor, heirInLine, granted, hasRunningChild}
+use Rattle.rules.specs.Requests.{Request, openTop, openSub, ask, commit, abort, effect}
+use Rattle.rules.specs.Sound.{standsNowhere, reachesTop, sound}
+use Rattle.rules.specs.Answers.{rowBy, answerOf, step, answers, after}
+use Rattle.rules.specs.Plain.{Plain, plainEmpty, mayOwn, runningChild, plainAnswer, plainEffect, plainNext, plainAnswers, plainAfter}
+use Rattle.rules.specs.Agrees.{Agrees}
+use Rattle.rules.specs.ReadWrite.{readWrite, writing, read, write}
+use Rattle.rules.specs.Sessions.{sessions}
+use Rattle.rules.proofs.Tests.{clash}
+use Rattle.rules.proofs.Kept.{empty-sound}
+use Rattle.rules.proofs.Sessions.{requestsOf, answersOf}
+use Rattle.rules.proofs.Controls.{small}
+use Rattle.rules.proofs.DemandTwo.{demand-two, empty-agrees}
+
+-- ---- the two machines compute
+
+-- The plain machine, computed, answers every session as the document does.
+plain-sessions-hold : map (λ l. plainAnswers readWrite plainEmpty (requestsOf l)) sessions ≡ map answersOf sessions
+unfolding requestsOf answersOf sessions all any mayOwn runningChild plainAnswer plainEffect plainNext plainAnswers
+plain-sessions-hold = refl
+
+-- the whole trace of document 01, at instrument 1 of two, in two parts: up to the commit of 2, and from there on
+untilCommit : List Request
+untilCommit = openTop 1 ∷ openSub 2 1 ∷ openSub 3 1 ∷ write 2 1 ∷ read 3 1 ∷ commit 2 ∷ []
+
+sinceCommit : List Request
+sinceCommit = read 3 1 ∷ write 3 1 ∷ commit 1 ∷ abort 3 ∷ write 1 1 ∷ commit 1 ∷ []
+
+-- the bench that requests leave on the small table, from an empty one, and what they leave of the plain machine
+stepped : List Request → Bench
+unfolding all any above isAncestor inFamily nearest heir isOwner isAskerOrAncestor heirInLine granted hasRunningChild effect standsNowhere reachesTop sound rowBy answerOf step answers after
+stepped rs = after small empty rs
+
+played : List Request → Plain
+unfolding all any mayOwn runningChild plainAnswer plainEffect plainNext plainAnswers plainAfter
+played rs = plainAfter small plainEmpty rs
+
+-- both machines give these answers
+abbrev BothGive : List Request → List ℕ → Type 0
+BothGive rs xs = (answers small empty rs ≡ xs) × (plainAnswers small plainEmpty rs ≡ xs)
+
+whole-trace-holds : BothGive (untilCommit ++ sinceCommit) (0 ∷ 0 ∷ 0 ∷ 0 ∷ 6 ∷ 0 ∷ 0 ∷ 0 ∷ 5 ∷ 0 ∷ 0 ∷ 0 ∷ [])
+unfolding stepped played untilCommit sinceCommit
+whole-trace-holds = (refl, refl)
+
+-- Of the numbers 0 to 3, once 2 is committed: who stands in the write set of instrument 1, who owns it, and who owns it on the plain machine.
+commit-hands-up : map (λ f. map f (0 ∷ 1 ∷ 2 ∷ 3 ∷ [])) (stepped untilCommit .stands writing 1 ∷ isOwner small (stepped untilCommit) writing 1 ∷ played untilCommit .owns writing 1 ∷ []) ≡ (false ∷ false ∷ true ∷ false ∷ []) ∷ (false ∷ true ∷ false ∷ false ∷ []) ∷ (false ∷ true ∷ false ∷ false ∷ []) ∷ []
+unfolding stepped played untilCommit
+commit-hands-up = refl
+
+-- There the two machines say the same, as the theorem has it.
+whole-trace-agrees : Agrees small (stepped untilCommit) (played untilCommit)
+unfolding stepped played
+whole-trace-agrees = demand-two small empty plainEmpty (empty-sound small) (empty-agrees small) untilCommit .1
+
+-- ---- wrong machines
+
+-- gives 0 every time; never changes a set; refuses whoever asks; at a sub's commit drops its locks, instead of handing them to its parent
+data Wrong : Type 0 where
+  givesAll keepsSets refusesAsks dropsLocks : Wrong
+
+withSets : (ℕ → ℕ → ℕ → Bool) → Bench → Bench
+withSets sets b = record { state = b .state; parent = b .parent; stands = sets }
+
+ownsBoth : Plain → Plain → Plain
+ownsBoth s t = record { used = t .used; runs = t .runs; ancestors = t .ancestors; owns = λ m i k. s .owns m i k && t .owns m i k }
+
+refusing : Bench → Request → ℕ
+refusing b (openTop n) = answerOf small b (openTop n)
+refusing b (openSub n p) = answerOf small b (openSub n p)
+refusing b (ask m a i) = 6
+refusing b (commit a) = answerOf small b (commit a)
+refusing b (abort a) = answerOf small b (abort a)
+
+dropping : Plain → Request → Plain
+dropping s (openTop n) = plainEffect s (openTop n)
+dropping s (openSub n p) = plainEffect s (openSub n p)
+dropping s (ask m a i) = plainEffect s (ask m a i)
+dropping s (commit a) = ownsBoth s (plainEffect s (commit a))
+dropping s (abort a) = plainEffect s (abort a)
+
+-- the answers of a machine that changes by `change` where it answers 0
+repliesBy : {S : Type 0} → (S → Request → ℕ) → (S → Request → S) → S → List Request → List ℕ
+repliesBy answer change s [] = []
+repliesBy answer change s (r ∷ rs) = let a = answer s r in a ∷ repliesBy answer change (if eqb a 0 then change s r else s) rs
+
+wrongAnswers : Wrong → List Request → List ℕ
+wrongAnswers givesAll = repliesBy (λ b r. 0) (effect small) empty
+wrongAnswers keepsSets = repliesBy (answerOf small) (λ b r. withSets (b .stands) (effect small b r)) empty
+wrongAnswers refusesAsks = repliesBy refusing (effect small) empty
+wrongAnswers dropsLocks = repliesBy (plainAnswer small) dropping plainEmpty
+
+-- top 1, 2 under 1; write 2, 0; commit 2; top 3; write 3, 0: 6
+handedUp : List Request
+handedUp = openTop 1 ∷ openSub 2 1 ∷ write 2 0 ∷ commit 2 ∷ openTop 3 ∷ write 3 0 ∷ []
+
+handed-up-holds : BothGive handedUp (0 ∷ 0 ∷ 0 ∷ 0 ∷ 0 ∷ 6 ∷ [])
+unfolding stepped played handedUp
+handed-up-holds = (refl, refl)
+
+alike : List ℕ → List ℕ → Bool
+alike [] [] = true
+alike [] (y ∷ ys) = false
+alike (x ∷ xs) [] = false
+alike (x ∷ xs) (y ∷ ys) = eqb x y && alike xs ys
+
+alike-itself : (xs : List ℕ) → alike xs xs ≡ true
+unfolding alike
+alike-itself [] = refl
+alike-itself (x ∷ xs) = rw (eq-eqb x x refl) (alike-itself xs)
+
+-- the same list of requests tells all four from the step
+wrong-differs : (w : Wrong) → alike (wrongAnswers w handedUp) (answers small empty handedUp) ≡ false
+unfolding stepped played handedUp withSets ownsBoth refusing dropping repliesBy wrongAnswers alike
+wrong-differs givesAll = refl
+wrong-differs keepsSets = refl
+wrong-differs refusesAsks = refl
+wrong-differs dropsLocks = refl
+
+wrong-refuted : (w : Wrong) → ((rs : List Request) → wrongAnswers w rs ≡ answers small empty rs) → ⊥
+wrong-refuted w same =
+    let given = wrongAnswers w handedUp in
+    clash (alike given (answers small empty handedUp)) (ap (alike given) (sym (same handedUp)) ∙ alike-itself given) (wrong-differs w)
+
+-- ---- the bounds of what the two say
+
+-- free 0 stands in a set of mode 2, which the table doesn't have
+stray : Bench
+unfolding withSets
+stray = withSets (λ m i k. eqb m 2 && eqb k 0) empty
+
+-- Soundness says nothing of such a set, and opening 0 makes an owner of it, which no request gave: so the machines are compared in the table's modes.
+stray-owner : (sound small stray ≡ true) × (isOwner small stray 2 1 0 ≡ false) × (answers small stray (openTop 0 ∷ []) ≡ 0 ∷ []) × (isOwner small (effect small stray (openTop 0)) 2 1 0 ≡ true)
+unfolding stepped stray
+stray-owner = (refl, refl, refl, refl)

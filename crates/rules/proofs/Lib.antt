@@ -1,0 +1,56 @@
+-- Ground:
+-- Tests: laws of the tests that compute: all and any below a bound, implications, choices.
+-- Facts: what soundness says of each number, as facts, and back from the facts to the test.
+-- Walks: going up from parent to parent in a sound bench: laws of ancestors and heirs that mention no number of steps, and induction along parents.
+-- Chains: what it takes for a chain of parents to end within a number of steps.
+-- Pigeonhole: a chain of parents that ends at all ends within one step less than there are numbers.
+-- Family: an action and its descendants, told from the parent's family.
+-- Accepted: what an answer 0 implies, for each request.
+pub mod Tests
+pub mod Facts
+pub mod Walks
+pub mod Chains
+pub mod Pigeonhole
+pub mod Family
+pub mod Accepted
+-- Theorems about the rules:
+-- Kept: every request on a sound bench leaves a sound bench.
+-- Asking: an accepted read or write enters the set, and asking again changes nothing further.
+-- SetForm: owner sets held to ancestors, and upward and downward sets, give the rule over heirs.
+-- Sessions: document 01's sessions marked (P), answered by the step as the document answers them: one computed test.
+-- Controls: computed benches that tell the rules from wrong ones near them, and on which soundness holds and fails.
+pub mod Kept
+pub mod Asking
+pub mod SetForm
+pub mod Sessions
+pub mod Controls
+-- Demand 2, the plain machine:
+-- HeirChanges: how heirs change with each accepted request.
+-- OwnerChanges: how owners change with each accepted request; a committed sub keeps its sets, and its parent owns what it owned.
+-- PlainAnswers: a sound bench and a plain machine that say the same give every request the same answer.
+-- PlainEffects: a sound bench and a plain machine that say the same still do after every accepted request.
+-- DemandTwo: demand 2, the bench and the plain machine of Moss's rules answer every list of requests alike.
+-- DemandControls: both machines computed, and near variants of them told apart by a list of requests.
+pub mod HeirChanges
+pub mod OwnerChanges
+pub mod PlainAnswers
+pub mod PlainEffects
+pub mod DemandTwo
+pub mod DemandControls
+-- Demand 3, any merging:
+-- Mix: two benches put together by member, and what each side keeps to.
+-- MixWalks: on the mix, a number's ancestors, heirs and children, and what it is granted, are those of its own bench.
+-- MixSteps: a request that keeps to one side steps on the mix as on its own bench.
+-- Alone: a bench that a side has to itself stays so under the side's own requests.
+-- Merged: the answers and the record of a merging, from two benches side by side.
+-- DemandThree: demand 3, any merging of two lists that are apart gets each its own answers by Moss's rules, and all mergings leave the same record.
+-- ApartTest: a test, pair by pair, that shows two lists to be apart.
+-- MergingControls: a merging computed, and demand 3 refuted where any of its hypotheses is weaker.
+pub mod Mix
+pub mod MixWalks
+pub mod MixSteps
+pub mod Alone
+pub mod Merged
+pub mod DemandThree
+pub mod ApartTest
+pub mod MergingControls

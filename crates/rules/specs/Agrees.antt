@@ -1,0 +1,16 @@
+-- When a bench and the plain machine say the same: the numbers in use and running, the ancestors, and at every instrument the heirs of the bench's
+-- sets are the plain machine's owners.
+use mathlib.Core.Bool.{not}
+use mathlib.Core.List.{List, [], _∷_}
+use mathlib.Core.Path.{_≡_}
+use Prim.Native.Nat.{ℕ, _<_}
+use Rattle.rules.specs.Tests.{from}
+use Rattle.rules.specs.Bench.{Shape, Bench, isFree, isRunning}
+use Rattle.rules.specs.Owners.{isOwner}
+use Rattle.rules.specs.Plain.{Plain}
+
+pub record Agrees (sh : Shape) (b : Bench) (s : Plain) : Type 0 where
+  pub used : (k : ℕ) → k < sh .actions → s .used k ≡ not (isFree (b .state k))
+  pub runs : (k : ℕ) → k < sh .actions → s .runs k ≡ isRunning (b .state k)
+  pub ancestors : (k : ℕ) → k < sh .actions → s .ancestors k ≡ from (b .parent k) [] (λ p. p ∷ s .ancestors p)
+  pub owns : (m i h : ℕ) → m < sh .modes → i < sh .instruments → h < sh .actions → s .owns m i h ≡ isOwner sh b m i h

@@ -1,0 +1,12 @@
+pub mod Tests
+pub mod Bench
+pub mod Owners
+pub mod Sound
+pub mod Requests
+pub mod Answers
+pub mod SetForm
+pub mod ReadWrite
+pub mod Sessions
+pub mod Plain
+pub mod Merging
+pub mod Agrees

@@ -1,0 +1,26 @@
+// Whether two records are the same, place by place.
+use bench::Bench;
+
+fn same_bytes<'a>(one: &'a [u8; 64], other: &'a [u8; 64]) -> bool {
+    let mut same = true;
+    for k in 0..64usize {
+        same = same & (one[k] == other[k]);
+    }
+    same
+}
+
+fn same_words<'a>(one: &'a [u64; 128], other: &'a [u64; 128]) -> bool {
+    let mut same = true;
+    for k in 0..128usize {
+        same = same & (one[k] == other[k]);
+    }
+    same
+}
+
+pub(crate) fn same(one: Bench, other: Bench) -> bool {
+    let parents = same_bytes(&one.parents, &other.parents);
+    let states = same_bytes(&one.states, &other.states);
+    let reads = same_words(&one.reads, &other.reads);
+    let writes = same_words(&one.writes, &other.writes);
+    parents & states & reads & writes
+}
