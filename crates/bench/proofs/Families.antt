@@ -24,13 +24,14 @@ pub record GrownTo (parents : List ℕ) (set grown k : ℕ) : Type 0 where
   pub keeps : (j : ℕ) → member set j ≡ true → member grown j ≡ true
   pub descend : (a : ℕ) → ((j : ℕ) → member set j ≡ true → descends parents a j ≡ true) → (j : ℕ) → member grown j ≡ true → descends parents a j ≡ true
   pub closed : grown ≡ set → (j : ℕ) → j < k → parentIn set (getD parents j 0) ≡ true → member set j ≡ true
+  pub lowClosed : ((j : ℕ) → j < 64 → getD parents j 0 ≤ j) → (j : ℕ) → j < k → parentIn grown (getD parents j 0) ≡ true → member grown j ≡ true
 
 pub grown-none : (parents : List ℕ) (set : ℕ) → GrownTo parents set set 0
 grown-none parents set =
-    record { larger = omega arith; keeps = λ j h. h; descend = λ a h. h; closed = λ e j l h. absurd (omega arith) }
+    record { larger = omega arith; keeps = λ j h. h; descend = λ a h. h; closed = λ e j l h. absurd (omega arith); lowClosed = λ low j l h. absurd (omega arith) }
 
 pub grown-all : (parents : List ℕ) (set grown : ℕ) → GrownTo parents set grown 64 → Grown parents set grown
-grown-all parents set grown g = record { larger = g .larger; keeps = g .keeps; descend = g .descend; closed = g .closed }
+grown-all parents set grown g = record { larger = g .larger; keeps = g .keeps; descend = g .descend; closed = g .closed; lowClosed = g .lowClosed }
 
 -- ---- one number is adopted
 
@@ -58,6 +59,11 @@ adopted-new set k up j l h old new = by-bool (parentIn set up)
 adopted-in : (set k up : ℕ) → k < 64 → parentIn set up ≡ true → member (adopted set k up) k ≡ true
 adopted-in set k up l t =
     rw (t, member-with 64 set k k l) (or-right (member set k) (eqb k k) (eq-eqb k k refl))
+
+-- adopting k changes nothing for those whose parents have lower numbers than k
+adopted-below : (set k up x : ℕ) → k < 64 → x ≤ k → parentIn (adopted set k up) x ≡ true → parentIn set x ≡ true
+adopted-below set k up zero l low h = h
+adopted-below set k up (suc p) l low h = adopted-new set k up p l h (λ old. old) (λ e t. absurd (omega arith))
 
 module _ (parents : List ℕ) (ok : SoundParents parents) where
   descends-top : (a k : ℕ) → getD parents k 0 ≡ 0 → descends parents a k ≡ eqb k a
@@ -89,6 +95,12 @@ module _ (parents : List ℕ) (ok : SoundParents parents) where
             by-last k j (omega arith)
             (λ q. rw q (ap (λ s. member s k) (sym e) ∙ adopted-in grown k up l (rw (same, ← q) h)))
             (λ below. g .closed same j below h);
+        lowClosed = λ low j lj h.
+            by-last k j (omega arith)
+            (λ q. rw q (adopted-in grown k up l (adopted-below grown k up up l (low k l) (rw q at h))))
+            (λ below.
+            let jl = low j (omega arith) in
+            adopted-keeps grown k up j l (g .lowClosed low j below (adopted-below grown k up (getD parents j 0) l (omega arith) h)));
       }
     where
       up : ℕ

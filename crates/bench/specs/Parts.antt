@@ -95,13 +95,14 @@ parentIn set (suc p) = member set p
 abbrev pub adopted : ℕ → ℕ → ℕ → ℕ
 adopted set k up = if parentIn set up then with 64 set k else set
 
--- A set grown by children: it keeps what it had, takes in only descendants of what it had descendants of, and has changed unless it holds the
--- children of all its numbers.
+-- A set grown by children: it keeps what it had, takes in only descendants of what it had descendants of, has changed unless it holds the children of
+-- all its numbers, and holds those where every parent has a lower number than its child.
 pub record Grown (parents : List ℕ) (set grown : ℕ) : Type 0 where
   pub larger : set ≤ grown
   pub keeps : (k : ℕ) → member set k ≡ true → member grown k ≡ true
   pub descend : (a : ℕ) → ((k : ℕ) → member set k ≡ true → descends parents a k ≡ true) → (k : ℕ) → member grown k ≡ true → descends parents a k ≡ true
   pub closed : grown ≡ set → (k : ℕ) → k < 64 → parentIn set (getD parents k 0) ≡ true → member set k ≡ true
+  pub lowClosed : ((k : ℕ) → k < 64 → getD parents k 0 ≤ k) → (k : ℕ) → k < 64 → parentIn grown (getD parents k 0) ≡ true → member grown k ≡ true
 
 -- One step up between places: place 0 is the end, and place k + 1 is number k.
 abbrev pub stepFrom : List ℕ → ℕ → ℕ

@@ -95,7 +95,7 @@ fn jump(up: &mut [u8; 65]) -> u8
 }
 
 // Whether every parent has a lower number than its child, as where actions are opened in the order of their numbers.
-fn parents_lower(parents: &[u8; 64]) -> bool
+pub(crate) fn parents_lower(parents: &[u8; 64]) -> bool
     ensures { λ r. ⌜ r ≡ all 64 (λ k. leb (getD (now (parents .entry)) k 0) k) ⌝ }
 {
     let mut ok = true;

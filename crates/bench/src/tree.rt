@@ -1,6 +1,7 @@
 // The tree of actions, on parents and states: running children, the line of ancestors, heirs, and families. These rely on a sound bench.
 use crate::index::RUNNING;
 use crate::index::wide;
+use crate::sound::parents_lower;
 ghost use mathlib.Core.Path.{_≡_};
 ghost use mathlib.Core.Bool.{true, false, _&&_};
 ghost use mathlib.Core.Option.{some};
@@ -125,6 +126,9 @@ pub(crate) fn family(parents: &[u8; 64], a: usize) -> u64
         return set;
     }
     let mut grown = with_children(parents, set);
+    if parents_lower(parents) {
+        return grown;
+    }
     while grown != set {
         set = grown;
         grown = with_children(parents, set);

@@ -4,7 +4,10 @@ use Prim.Native.Nat.{_+_, _<_, _-_, _^_, _%_}
 use mathlib.Core.Path.{sym, _∙_}
 use native.Mathlib.Omega.{arith}
 use borrow.Author.Needs.{needs}
-use borrow.Author.Tests.{not-true}
+use borrow.Author.Tests.{leb-true, not-true}
+use lib.Dec.{leb}
+use lib.ListN.{getD}
+use Rattle.rules.proofs.Tests.{all-at}
 use Rattle.bench.specs.Parts.{Grown}
 use Rattle.bench.proofs.Families.{Gathered, gathered-start, gathered-turn, gathered-all, childless-closed}
 use Rattle.bench.proofs.tree.family.Statement.{statement}
@@ -40,11 +43,26 @@ returns c =
 with-children-requires : tie.Need-with-children-requires Inv-loop μ-loop
 with-children-requires c κs = search needs
 
+parents-lower-requires : tie.Need-parents-lower-requires Inv-loop μ-loop
+parents-lower-requires c κs = search needs
+
+returns-2 : tie.Need-returns-2 Inv-loop μ-loop
+returns-2 c =
+    let pass = c .before .before in
+    let start = pass .before .before .before .before in
+    let parents = start .args .parents .now in
+    let low = all-at 64 (λ k. leb (getD parents k 0) k) (sym (c .before .parents-lower .ensures) ∙ c .if2 .taken) in
+    gathered-all parents (start .pre .0) (start .pre .2) (start .args .a) (pass .with-children .result)
+    (gathered-turn parents (start .args .a) (pass .before .before .before .with .result) (pass .with-children .result) (search needs)
+    (rw (pass .before .before .before .with .ensures) (gathered-start parents (start .args .a) (start .pre .1))) (pass .with-children .ensures))
+    (pass .with-children .ensures .lowClosed (λ k l. leb-true (getD parents k 0) k (low k l)))
+
 loop-holds : tie.Need-loop-holds Inv-loop μ-loop
 loop-holds c =
-    let start = c .before .before .before .before in (
-      rw (c .before .before .before .with .ensures) (gathered-start (start .args .parents .now) (start .args .a) (start .pre .1)),
-      c .with-children .ensures,
+    let pass = c .before .before in
+    let start = pass .before .before .before .before in (
+      rw (pass .before .before .before .with .ensures) (gathered-start (start .args .parents .now) (start .args .a) (start .pre .1)),
+      pass .with-children .ensures,
       search needs,
     )
 
@@ -61,15 +79,15 @@ loop-less c =
 loop-again : tie.Need-loop-again Inv-loop μ-loop
 loop-again c =
     let at = c .before .before in
-    let start = at .before .before .before .before .before in (
+    let start = at .before .before .before .before .before .before .before in (
       gathered-turn (start .args .parents .now) (start .args .a) (at .loop .set) (at .loop .grown) (at .loop .inv .2) (at .loop .inv .0) (at .loop .inv .1),
       c .with-children2 .ensures,
       search needs,
     )
 
-returns-2 : tie.Need-returns-2 Inv-loop μ-loop
-returns-2 c =
-    let start = c .before .before .before .before .before .before in
+returns-3 : tie.Need-returns-3 Inv-loop μ-loop
+returns-3 c =
+    let start = c .before .before .before .before .before .before .before .before in
     gathered-all (start .args .parents .now) (start .pre .0) (start .pre .2) (start .args .a) (c .before .loop .set) (c .before .loop .inv .0)
     (c .before .loop .inv .1 .closed (c .loop-test .left))
 
@@ -85,8 +103,10 @@ family-spec =
     has-child-requires
     returns
     with-children-requires
+    parents-lower-requires
+    returns-2
     loop-holds
     with-children-requires-2
     loop-less
     loop-again
-    returns-2)
+    returns-3)

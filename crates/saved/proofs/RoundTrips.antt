@@ -1,0 +1,250 @@
+-- The round trips of the saved form: the text of a sound bench says that bench, a text that says a record is that record's text, so what is saved loads
+-- as itself and what loads saves as itself. No text is longer than 5312 bytes, and one is as long.
+use mathlib.Core.Path.{_≡_, refl, sym, _∙_, ap}
+use mathlib.Core.Bool.{true, false}
+use mathlib.Core.List.{List, [], _++_, append-assoc, append-nil}
+use mathlib.Core.Option.{Option, none, some, Option·none-ne-some}
+use Prim.Native.Nat.{ℕ, zero, suc, _≤_, _<_}
+use native.Mathlib.Nat.{zero-add}
+use native.Mathlib.Omega.{arith}
+use borrow.Author.Tests.{eqb-true, eq-eqb, le-ltb}
+use lib.Dec.{eqb}
+use lib.ListN.{length, getD, drop, replicate, length-append, length-replicate}
+use lib.Seq.{drop-length, drop-append-seam}
+use Rattle.rules.specs.Tests.{all}
+use Rattle.rules.specs.Sound.{meansSomething, standsNowhere, reachesTop, sound}
+use Rattle.rules.specs.ReadWrite.{readWrite}
+use Rattle.rules.proofs.Tests.{by-bool, clash}
+use Rattle.rules.proofs.Facts.{sound-facts}
+use Rattle.bench.specs.declared.Bench.{Bench}
+use Rattle.bench.specs.View.{stateOf, parentOf, viewed}
+use Rattle.bench.proofs.Bytes.{none-byte}
+use Rattle.bench.proofs.Unique.{Fits}
+use Rattle.saved.specs.Text.{hexOf, actionFrame, instrumentFrame, actionCell, instrumentCell, cellsFrom, textOf}
+use Rattle.saved.specs.Shape.{actionAt, Taken, actionsIn, instrumentsIn, recordIn}
+use Rattle.saved.specs.Saved.{savedAs, bufferAfter, loadedFrom, loadOf}
+use Rattle.saved.proofs.FrameKinds.{ShapedAction, ShapedSets, action, action-laws, instrument, instrument-laws, frame-other, frame-none}
+use Rattle.saved.proofs.Rows.{cellOf, Untaken, row-refutes, row-short, row-said, taken-row, taken-length, taken-shaped}
+
+-- ---- a record's text says the record
+
+-- A record that has a text: states 0, 1 and 2, parents up to 64, and a free number has none.
+pub record Shaped (b : Bench) : Type 0 where
+  pub fits : Fits b
+  pub actions : (k : ℕ) → k < 64 → ShapedAction (getD (b .parents) k 0) (getD (b .states) k 0)
+
+-- both rows of a record's text
+abbrev actionRow : Bench → List ℕ
+actionRow b = cellsFrom (cellOf action (b .parents) (b .states)) 64 0
+
+abbrev instrumentRow : Bench → List ℕ
+instrumentRow b = cellsFrom (cellOf instrument (b .reads) (b .writes)) 128 0
+
+text-rows : (b : Bench) → textOf b ≡ actionRow b ++ instrumentRow b
+unfolding textOf actionCell instrumentCell actionFrame instrumentFrame
+text-rows b = refl
+
+module _ (b : Bench) (shaped : Shaped b) (text : List ℕ) (e : text ≡ actionRow b ++ instrumentRow b) where
+  actions-said : actionsIn text ≡ record { at = length (actionRow b); first = b .parents; second = b .states }
+  unfolding actionsIn
+  actions-said =
+      row-said action action-laws (b .parents) (b .states) text (instrumentRow b)
+      (let l = f .parentsLong in omega arith) (f .parentsLong ∙ sym (f .statesLong))
+      (λ k l. shaped .actions k (rw (f .parentsLong) at l))
+      none-behind 64 0 (sym (f .parentsLong)) e
+      ∙ rw (zero-add (length (actionRow b)))
+    where
+      f : Fits b
+      f = shaped .fits
+
+      none-behind : (at j : ℕ) → drop at text ≡ instrumentRow b → actionAt text at j ≡ false
+      none-behind at j h =
+          row-refutes instrument instrument-laws (b .reads) (b .writes) (actionAt text at j) text [] at 128 0
+          (λ i r l u.
+          frame-other action action-laws instrument instrument-laws text r at i (getD (b .reads) i 0) (getD (b .writes) i 0) j (omega arith)
+          (λ same here. omega arith))
+          (frame-none action action-laws text at j)
+          (h ∙ sym (append-nil (instrumentRow b)))
+
+  instruments-said : instrumentsIn text (length (actionRow b)) ≡ record { at = length text; first = b .reads; second = b .writes }
+  unfolding instrumentsIn
+  instruments-said =
+      row-said instrument instrument-laws (b .reads) (b .writes) text []
+      (let l = f .readsLong in omega arith) (f .readsLong ∙ sym (f .writesLong))
+      (λ i l. record { readsFit = f .readsFit i (rw (f .readsLong) at l); writesFit = f .writesFit i (rw (f .readsLong) at l) })
+      (frame-none instrument instrument-laws text) 128 (length (actionRow b)) (sym (f .readsLong))
+      (ap (drop (length (actionRow b))) e ∙ drop-append-seam (actionRow b) (instrumentRow b) ∙ sym (append-nil (instrumentRow b)))
+      ∙ (λ i. record { at = sym (ap length e ∙ length-append (actionRow b) (instrumentRow b)) i; first = b .reads; second = b .writes })
+    where
+      f : Fits b
+      f = shaped .fits
+
+-- The text of a record that has one says that record.
+pub text-says-shaped : (b : Bench) → Shaped b → recordIn (textOf b) ≡ some b
+unfolding recordIn
+text-says-shaped b shaped =
+    rw (actions-said b shaped (textOf b) (text-rows b), instruments-said b shaped (textOf b) (text-rows b), eq-eqb (length (textOf b)) (length (textOf b)) refl)
+
+-- a sound record has a text
+sound-shaped : (b : Bench) → Fits b → sound readWrite (viewed b) ≡ true → Shaped b
+sound-shaped b fits ok =
+    record {
+      fits = fits;
+      actions = λ k l.
+          let f = sound-facts readWrite (viewed b) ok k l in
+          record {
+            parentKnown = known-parent (getD (b .parents) k 0) (f .parentKnown);
+            stateKnown = known-state (getD (b .states) k 0) (f .means);
+            freeHasNoParent = λ z. none-byte (getD (b .parents) k 0) (f .freeHasNoParent (rw z));
+          };
+    }
+  where
+    known-parent : (x : ℕ) → ((p : ℕ) → parentOf x ≡ some p → p < 64) → x ≤ 64
+    known-parent zero h = omega arith
+    known-parent (suc p) h = h p refl
+
+    known-state : (s : ℕ) → meansSomething (stateOf s) ≡ true → s ≤ 2
+    known-state zero h = omega arith
+    known-state (suc zero) h = omega arith
+    known-state (suc (suc zero)) h = omega arith
+    known-state (suc (suc (suc s))) h = clash false h refl
+
+-- The text of a sound record says that record.
+pub text-says-record : (b : Bench) → Fits b → sound readWrite (viewed b) ≡ true → recordIn (textOf b) ≡ some b
+text-says-record b fits ok = text-says-shaped b (sound-shaped b fits ok)
+
+-- ---- a text that says a record is the record's text
+
+zeros-read : (n j : ℕ) → _≡_ {A = ℕ} (getD (replicate n 0) j 0) 0
+zeros-read zero j = refl
+zeros-read (suc n) zero = refl
+zeros-read (suc n) (suc j) = zeros-read n j
+
+zeros-untaken : (n at : ℕ) → Untaken n 0 (record { at = at; first = replicate n 0; second = replicate n 0 })
+zeros-untaken n at =
+    record {
+      firstLong = rw (length-replicate {A = ℕ} n 0) (omega arith);
+      secondLong = rw (length-replicate {A = ℕ} n 0) (omega arith);
+      firstZeros = λ j l. zeros-read n j;
+      secondZeros = λ j l. zeros-read n j;
+    }
+
+-- the record that is read, whether or not something is left over
+abbrev readFrom : List ℕ → Bench
+readFrom text =
+    let actions = actionsIn text in
+    let instruments = instrumentsIn text (actions .at) in
+    record { parents = actions .first; states = actions .second; reads = instruments .first; writes = instruments .second }
+
+-- it writes the text, up to what is left over
+read-writes : (text : List ℕ) → text ≡ textOf (readFrom text) ++ drop (instrumentsIn text (actionsIn text .at) .at) text
+unfolding actionsIn instrumentsIn
+read-writes text =
+    taken-row action action-laws text 64 0 (record { at = 0; first = replicate 64 0; second = replicate 64 0 }) (zeros-untaken 64 0)
+    ∙ ap (λ l. actionRow b ++ l)
+    (taken-row instrument instrument-laws text 128 0 (record { at = between; first = replicate 128 0; second = replicate 128 0 }) (zeros-untaken 128 between))
+    ∙ sym (ap (λ l. l ++ drop end text) (text-rows b) ∙ append-assoc (actionRow b) (instrumentRow b) (drop end text))
+  where
+    b : Bench
+    b = readFrom text
+
+    between : ℕ
+    between = actionsIn text .at
+
+    end : ℕ
+    end = instrumentsIn text between .at
+
+-- a text says what is read from it, where nothing is left over
+said-read : (text : List ℕ) (b : Bench) → recordIn text ≡ some b → (readFrom text ≡ b) × (instrumentsIn text (actionsIn text .at) .at ≡ length text)
+unfolding recordIn
+said-read text b e =
+    by-bool (eqb end (length text))
+    (λ h. let said : some (readFrom text) ≡ some b = rw h at e in (cc, eqb-true end (length text) h))
+    (λ h. absurd (Option·none-ne-some b (rw h at e)))
+  where
+    end : ℕ
+    end = instrumentsIn text (actionsIn text .at) .at
+
+-- A text that says a record is that record's text.
+pub record-writes-text : (text : List ℕ) (b : Bench) → recordIn text ≡ some b → textOf b ≡ text
+record-writes-text text b e =
+    let said = said-read text b e in
+    rw (← said .0) (sym (read-writes text ∙ rw (said .1, drop-length text, append-nil (textOf (readFrom text)))))
+
+-- A record that a text says has a text, so that the well-shaped texts are the texts of such records and no others.
+pub said-shaped : (text : List ℕ) (b : Bench) → recordIn text ≡ some b → Shaped b
+unfolding actionsIn instrumentsIn
+said-shaped text b e = rw (← said-read text b e .0) (record { fits = fits; actions = λ k l. actions k })
+  where
+    between : ℕ
+    between = actionsIn text .at
+
+    start : Taken
+    start = record { at = 0; first = replicate 64 0; second = replicate 64 0 }
+
+    middle : Taken
+    middle = record { at = between; first = replicate 128 0; second = replicate 128 0 }
+
+    actions : (k : ℕ) → ShapedAction (getD (readFrom text .parents) k 0) (getD (readFrom text .states) k 0)
+    actions =
+        taken-shaped action action-laws text 64 0 start (zeros-untaken 64 0)
+        (λ j. rw (zeros-read 64 j) (record { parentKnown = omega arith; stateKnown = omega arith; freeHasNoParent = λ z. refl }))
+
+    sets : (i : ℕ) → ShapedSets (getD (readFrom text .reads) i 0) (getD (readFrom text .writes) i 0)
+    sets =
+        taken-shaped instrument instrument-laws text 128 0 middle (zeros-untaken 128 between)
+        (λ j. rw (zeros-read 128 j) (record { readsFit = omega arith; writesFit = omega arith }))
+
+    fits : Fits (readFrom text)
+    fits =
+        record {
+          parentsLong = taken-length action action-laws text 64 0 start .0 ∙ length-replicate {A = ℕ} 64 0;
+          statesLong = taken-length action action-laws text 64 0 start .1 ∙ length-replicate {A = ℕ} 64 0;
+          readsLong = taken-length instrument instrument-laws text 128 0 middle .0 ∙ length-replicate {A = ℕ} 128 0;
+          writesLong = taken-length instrument instrument-laws text 128 0 middle .1 ∙ length-replicate {A = ℕ} 128 0;
+          readsFit = λ i l. sets i .readsFit;
+          writesFit = λ i l. sets i .writesFit;
+        }
+
+-- ---- save and load
+
+-- A saved sound bench loads as itself.
+pub saved-loads : (b : Bench) → Fits b → sound readWrite (viewed b) ≡ true → loadOf (textOf b) ≡ record { bench = b; answer = 0 }
+unfolding loadOf
+saved-loads b fits ok = rw (text-says-record b fits ok, ok)
+
+-- where a text loads, it says the record, and the record is sound
+loads-sound : (o : Option Bench) (b : Bench) → loadedFrom o ≡ record { bench = b; answer = 0 } → (o ≡ some b) × (sound readWrite (viewed b) ≡ true)
+loads-sound none b e = absurd (let z : _≡_ {A = ℕ} 8 0 = ap (λ l. l .answer) e in omega arith)
+loads-sound (some c) b e =
+    by-bool (sound readWrite (viewed c))
+    (λ h. let same : c ≡ b = ap (λ l. l .bench) (rw h at e) in (ap some same, ap (λ x. sound readWrite (viewed x)) (sym same) ∙ h))
+    (λ h. absurd (let z : _≡_ {A = ℕ} 7 0 = ap (λ l. l .answer) (rw h at e) in omega arith))
+
+-- An accepted text saves as itself, into any buffer that has room.
+pub loaded-saves : (text out : List ℕ) (b : Bench) → loadOf text ≡ record { bench = b; answer = 0 } → length text ≤ length out → (savedAs b (length out) ≡ record { answer = 0; count = length text }) × (bufferAfter b out ≡ text ++ drop (length text) out)
+unfolding loadOf savedAs bufferAfter
+loaded-saves text out b e room =
+    let loaded = loads-sound (recordIn text) b e in
+    rw (loaded .1, record-writes-text text b (loaded .0), le-ltb (length out) (length text) room) (refl, refl)
+
+-- ---- the longest text
+
+-- 64 frames of 9 bytes and 128 of 37
+pub longest-text : (b : Bench) → length (textOf b) ≤ 5312
+longest-text b =
+    rw (text-rows b, length-append (actionRow b) (instrumentRow b))
+    (omega (arith, row-short action action-laws (b .parents) (b .states) 64 0, row-short instrument instrument-laws (b .reads) (b .writes) 128 0))
+
+-- no longer text says anything
+pub said-short : (text : List ℕ) (b : Bench) → recordIn text ≡ some b → length text ≤ 5312
+said-short text b e = rw (← record-writes-text text b e) (longest-text b)
+
+-- a record whose text is that long: all actions run as tops, and action 0 reads every instrument
+abbrev fullest : Bench
+fullest = record { parents = replicate 64 0; states = replicate 64 1; reads = replicate 128 1; writes = replicate 128 0 }
+
+-- The longest text is that of a sound record.
+pub longest-reached : (sound readWrite (viewed fullest) ≡ true) × (length (textOf fullest) ≡ 5312)
+unfolding textOf cellsFrom actionCell instrumentCell actionFrame instrumentFrame hexOf sound all reachesTop standsNowhere
+longest-reached = (refl, refl)

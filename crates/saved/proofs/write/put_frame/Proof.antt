@@ -1,0 +1,76 @@
+-- `put_frame` meets its contract: each number stands behind the one before it, and 0a behind the last. Assumes nothing.
+use native.Mathlib.Omega.{arith}
+use borrow.Author.Needs.{needs}
+use lib.ListN.{length-set}
+use Rattle.saved.proofs.WrittenFrames.{frame-stored}
+use Rattle.saved.proofs.write.put_frame.Statement.{statement}
+use Rattle.saved.proofs.write.put_frame.Tie as tie
+
+put-number-requires : tie.Need-put-number-requires
+put-number-requires c κs = search needs
+
+add-put-number : tie.Need-add-put-number
+add-put-number c = search needs
+
+put-number-requires-2 : tie.Need-put-number-requires-2
+put-number-requires-2 c κs = search needs
+
+add-put-number-2 : tie.Need-add-put-number-2
+add-put-number-2 c = search needs
+
+put-number-requires-3 : tie.Need-put-number-requires-3
+put-number-requires-3 c κs = search needs
+
+add-put-number-3 : tie.Need-add-put-number-3
+add-put-number-3 c = search needs
+
+add-put-number-4 : tie.Need-add-put-number-4
+add-put-number-4 c = search needs
+
+put-number-requires-4 : tie.Need-put-number-requires-4
+put-number-requires-4 c κs = search needs
+
+add-out : tie.Need-add-out
+add-out c = search needs
+
+add-out-2 : tie.Need-add-out-2
+add-out-2 c = search needs
+
+add-out-3 : tie.Need-add-out-3
+add-out-3 c = search needs
+
+slice-write-out : tie.Need-slice-write-out
+slice-write-out c = search needs
+
+same-length : tie.Need-same-length
+same-length c = simp length-set (omega arith)
+
+returns : tie.Need-returns
+returns c =
+    let p4 = c .before .before in
+    let p3 = p4 .before .before .before .before in
+    let p2 = p3 .before .before .before .before in
+    let p1 = p2 .before .before .before .before in
+    let a = p1 .before .before .before .args in
+    frame-stored (a .out .now) (a .at) (a .w) (a .kind) (a .number) (a .first) (a .second) (p1 .put-number .ensures) (p2 .put-number2 .ensures)
+    (p3 .put-number3 .ensures)
+    (p4 .put-number4 .ensures)
+
+pub put-frame-spec : {M : Type 1} → statement M
+put-frame-spec =
+    tie.close
+    (tie.spec
+    put-number-requires
+    add-put-number
+    put-number-requires-2
+    add-put-number-2
+    put-number-requires-3
+    add-put-number-3
+    add-put-number-4
+    put-number-requires-4
+    add-out
+    add-out-2
+    add-out-3
+    slice-write-out
+    same-length
+    returns)

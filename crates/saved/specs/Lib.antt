@@ -1,0 +1,4 @@
+pub mod Text
+pub mod Shape
+pub mod Saved
+pub mod Written

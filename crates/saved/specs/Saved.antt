@@ -1,0 +1,47 @@
+-- Save and load (document 01, "Saved form" and answers 7, 8 and 9).
+use mathlib.Core.Bool.{Bool}
+use mathlib.Core.List.{List, _++_}
+use mathlib.Core.Option.{Option, none, some}
+use Prim.Native.Nat.{ℕ}
+use lib.Dec.{ltb}
+use lib.ListN.{length, drop, replicate}
+use Rattle.rules.specs.Tests.{if_then_else_}
+use Rattle.rules.specs.Sound.{sound}
+use Rattle.rules.specs.ReadWrite.{readWrite}
+use Rattle.bench.specs.declared.Bench.{Bench}
+use Rattle.bench.specs.View.{viewed}
+use Rattle.saved.specs.declared.Saved.{Saved}
+use Rattle.saved.specs.declared.Loaded.{Loaded}
+use Rattle.saved.specs.Text.{textOf}
+use Rattle.saved.specs.Shape.{recordIn}
+
+-- Save: 7 where the record isn't sound, then 9 where the buffer is shorter than the text; either way 0 bytes. Else 0 and the text's length.
+unfoldable pub savedAs : Bench → ℕ → Saved
+savedAs b room =
+    if sound readWrite (viewed b)
+    then if ltb room (length (textOf b)) then record { answer = 9; count = 0 } else record { answer = 0; count = length (textOf b) }
+    else record { answer = 7; count = 0 }
+
+-- The buffer after it: untouched where it is refused, else the text at its start and the bytes behind as they were.
+unfoldable pub bufferAfter : Bench → List ℕ → List ℕ
+bufferAfter b out =
+    if sound readWrite (viewed b)
+    then if ltb (length out) (length (textOf b)) then out else textOf b ++ drop (length (textOf b)) out
+    else out
+
+-- an empty bench, as a record
+abbrev pub emptyRecord : Bench
+emptyRecord = record { parents = replicate 64 0; states = replicate 64 0; reads = replicate 128 0; writes = replicate 128 0 }
+
+-- a record that a text says: 7 and an empty bench where it isn't sound
+abbrev pub ifSound : Bench → Loaded
+ifSound b =
+    if sound readWrite (viewed b) then record { bench = b; answer = 0 } else record { bench = emptyRecord; answer = 7 }
+
+abbrev pub loadedFrom : Option Bench → Loaded
+loadedFrom none = record { bench = emptyRecord; answer = 8 }
+loadedFrom (some b) = ifSound b
+
+-- Load: 8 for the whole text where it is not well-shaped, then 7; refused gives an empty bench.
+unfoldable pub loadOf : List ℕ → Loaded
+loadOf text = loadedFrom (recordIn text)

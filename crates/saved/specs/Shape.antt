@@ -1,0 +1,100 @@
+-- Which texts are well-shaped, and which record one says (document 01, "Saved form"). Frames are looked for in the order of their numbers, those of
+-- actions first: an 11 frame after a 12 frame, and numbers that don't strictly rise, are then left over, as is everything else of another shape.
+use mathlib.Core.Bool.{Bool, true, false, not, _&&_, _||_}
+use mathlib.Core.List.{List}
+use mathlib.Core.Option.{Option, none, some}
+use Prim.Native.Nat.{ℕ, zero, suc, _+_, _-_, _*_, _%_}
+use lib.Dec.{eqb, leb, ltb}
+use lib.ListN.{length, getD, set, replicate}
+use Rattle.rules.specs.Tests.{if_then_else_, all}
+use Rattle.bench.specs.declared.Bench.{Bench}
+
+-- the value of a digit 0-9 or a-f, and 16 for a byte that is neither
+abbrev pub digitOf : ℕ → ℕ
+digitOf c =
+    if leb 48 c && leb c 57 then c - 48
+    else if leb 97 c && leb c 102 then c - 87
+    else 16
+
+-- n digits stand in the text from place `at` on
+unfoldable pub digitsAt : List ℕ → ℕ → ℕ → Bool
+digitsAt text at n = all n (λ j. ltb (digitOf (getD text (at + j) 0)) 16)
+
+-- the number that they write
+unfoldable pub numberAt : List ℕ → ℕ → ℕ → ℕ
+numberAt text at zero = 0
+numberAt text at (suc n) = numberAt text at n * 16 + digitOf (getD text (at + n) 0) % 16
+
+-- a frame of n digits and its 0a stand there
+abbrev pub frameAt : List ℕ → ℕ → ℕ → Bool
+frameAt text at n = digitsAt text at n && eqb (getD text (at + n) 0) 10
+
+-- The frame of action k stands there: eight digits; 11; k; a state 01 or 02; a parent below 64, or ff.
+unfoldable pub actionAt : List ℕ → ℕ → ℕ → Bool
+actionAt text at k =
+    frameAt text at 8
+    && eqb (numberAt text at 2) 0x11
+    && eqb (numberAt text (at + 2) 2) k
+    && (eqb (numberAt text (at + 4) 2) 1 || eqb (numberAt text (at + 4) 2) 2)
+    && (ltb (numberAt text (at + 6) 2) 64 || eqb (numberAt text (at + 6) 2) 0xff)
+
+-- The frame of instrument i stands there: 36 digits; 12; i; two sets that are not both empty.
+unfoldable pub instrumentAt : List ℕ → ℕ → ℕ → Bool
+instrumentAt text at i =
+    frameAt text at 36
+    && eqb (numberAt text at 2) 0x12
+    && eqb (numberAt text (at + 2) 2) i
+    && not (eqb (numberAt text (at + 4) 16) 0 && eqb (numberAt text (at + 20) 16) 0)
+
+-- a parent's byte in the record, from its digits in the text
+abbrev pub parentByte : ℕ → ℕ
+parentByte p = if eqb p 0xff then 0 else p + 1
+
+-- what has been read: up to which place of the text, and two arrays
+pub record Taken : Type 0 where
+  pub at : ℕ
+  pub first : List ℕ
+  pub second : List ℕ
+
+-- the frame of action k, if it stands there: parents and states with what it says
+abbrev pub takeAction : List ℕ → ℕ → Taken → Taken
+takeAction text k t =
+    if actionAt text (t .at) k
+    then record {
+      at = t .at + 9;
+      first = set (t .first) k (parentByte (numberAt text (t .at + 6) 2));
+      second = set (t .second) k (numberAt text (t .at + 4) 2);
+    }
+    else t
+
+-- the frame of instrument i, if it stands there: read and write sets with what it says
+abbrev pub takeInstrument : List ℕ → ℕ → Taken → Taken
+takeInstrument text i t =
+    if instrumentAt text (t .at) i
+    then record {
+      at = t .at + 37;
+      first = set (t .first) i (numberAt text (t .at + 4) 16);
+      second = set (t .second) i (numberAt text (t .at + 20) 16);
+    }
+    else t
+
+-- n of them, from number k on
+unfoldable pub takeFrom : (ℕ → Taken → Taken) → ℕ → ℕ → Taken → Taken
+takeFrom take zero k t = t
+takeFrom take (suc n) k t = takeFrom take n (suc k) (take k t)
+
+-- the frames of actions from the text's start, and those of instruments behind them
+unfoldable pub actionsIn : List ℕ → Taken
+actionsIn text = takeFrom (takeAction text) 64 0 (record { at = 0; first = replicate 64 0; second = replicate 64 0 })
+
+unfoldable pub instrumentsIn : List ℕ → ℕ → Taken
+instrumentsIn text at = takeFrom (takeInstrument text) 128 0 (record { at = at; first = replicate 128 0; second = replicate 128 0 })
+
+-- The record that a well-shaped text says; none where something is left over.
+unfoldable pub recordIn : List ℕ → Option Bench
+recordIn text =
+    let actions = actionsIn text in
+    let instruments = instrumentsIn text (actions .at) in
+    if eqb (instruments .at) (length text)
+    then some (record { parents = actions .first; states = actions .second; reads = instruments .first; writes = instruments .second })
+    else none

@@ -1,0 +1,104 @@
+// The saved form of a bench: its text, written into a lent buffer and read from lent bytes.
+mod read;
+mod write;
+
+use bench::Bench;
+use bench::answers::ACCEPTED;
+use bench::answers::UNSOUND;
+ghost use mathlib.Core.Path.{_≡_};
+ghost use lib.ListN.{length};
+ghost use Rattle.saved.specs.Saved.{savedAs, bufferAfter, emptyRecord, ifSound, loadOf};
+
+// Load: the text is not well-shaped.
+pub const MALFORMED: u8 = 8;
+
+// Save: the buffer is shorter than the text.
+pub const NO_ROOM: u8 = 9;
+
+// What a save hands back: how many bytes it wrote, and the answer's number.
+pub struct Saved {
+    pub count: usize,
+    pub answer: u8,
+}
+
+// What a load hands back: the bench and the answer's number.
+pub struct Loaded {
+    pub bench: Bench,
+    pub answer: u8,
+}
+
+// Writes the text of a bench at the buffer's start. Refused, it writes nothing.
+pub fn save(b: Bench, out: &mut [u8]) -> Saved
+    ensures { λ r. ⌜ (r ≡ savedAs b (length (now (out .entry)))) × (now (out .exit) ≡ bufferAfter b (now (out .entry))) ⌝ }
+{
+    if !b.is_sound() {
+        return Saved {
+            count: 0,
+            answer: UNSOUND,
+        };
+    }
+    let needed = write::actions_length(&b.states) + write::instruments_length(&b.reads, &b.writes);
+    if out.len() < needed {
+        return Saved {
+            count: 0,
+            answer: NO_ROOM,
+        };
+    }
+    let at = write::write_actions(out, 0, &b.parents, &b.states);
+    let count = write::write_instruments(out, at, &b.reads, &b.writes);
+    Saved {
+        count: count,
+        answer: ACCEPTED,
+    }
+}
+
+// What a refused load hands back: an empty bench and the answer's number.
+fn refused(answer: u8) -> Loaded
+    ensures { λ r. ⌜ r ≡ (record { bench = emptyRecord; answer = answer }) ⌝ }
+{
+    let bench = Bench {
+        parents: [0u8; 64],
+        states: [0u8; 64],
+        reads: [0u64; 128],
+        writes: [0u64; 128],
+    };
+    Loaded {
+        bench: bench,
+        answer: answer,
+    }
+}
+
+// A bench that a text says, where it is sound; else refused.
+fn checked(bench: Bench) -> Loaded
+    ensures { λ r. ⌜ r ≡ ifSound bench ⌝ }
+{
+    if bench.is_sound() {
+        return Loaded {
+            bench: bench,
+            answer: ACCEPTED,
+        };
+    }
+    refused(UNSOUND)
+}
+
+// The bench that a text says: 8 where it isn't well-shaped, then 7 where the bench isn't sound.
+pub fn load(text: &[u8]) -> Loaded
+    ensures { λ r. ⌜ r ≡ loadOf (now (text .entry)) ⌝ }
+{
+    let mut parents = [0u8; 64];
+    let mut states = [0u8; 64];
+    let mut reads = [0u64; 128];
+    let mut writes = [0u64; 128];
+    let behind = read::read_actions(text, &mut parents, &mut states);
+    let end = read::read_instruments(text, behind, &mut reads, &mut writes);
+    if end != text.len() {
+        return refused(MALFORMED);
+    }
+    let bench = Bench {
+        parents: parents,
+        states: states,
+        reads: reads,
+        writes: writes,
+    };
+    checked(bench)
+}
