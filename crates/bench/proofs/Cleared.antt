@@ -12,7 +12,7 @@ use Rattle.sets.specs.Sets.{member, difference}
 use Rattle.sets.proofs.Laws.{member-empty, no-members, member-difference, difference-fits}
 use Rattle.rules.specs.Tests.{if_then_else_}
 use Rattle.rules.proofs.Tests.{by-bool}
-use Rattle.bench.specs.Parts.{kept}
+use Rattle.bench.specs.Parts.{kept, Changed}
 use Rattle.bench.proofs.Taken.{Taken}
 
 -- ---- bytes
@@ -20,10 +20,11 @@ use Rattle.bench.proofs.Taken.{Taken}
 -- When the numbers that are left go from the bytes, they are as when all numbers go from the bytes at the start.
 pub record Going (bytes₀ : List ℕ) (gone : ℕ) (bytes : List ℕ) (rest : ℕ) : Type 0 where
   pub fits : rest < 2 ^ 64
+  pub long : length bytes ≡ length bytes₀
   pub left : (k : ℕ) → kept rest k (getD bytes k 0) ≡ kept gone k (getD bytes₀ k 0)
 
 pub going-start : (bytes : List ℕ) (gone : ℕ) → gone < 2 ^ 64 → Going bytes gone bytes gone
-going-start bytes gone fits = record { fits = fits; left = λ k. refl }
+going-start bytes gone fits = record { fits = fits; long = refl; left = λ k. refl }
 
 -- a byte that was set to 0 is 0, also past the end
 getD-set-zero : (l : List ℕ) (k : ℕ) → getD (set l k 0) k 0 ≡ 0
@@ -39,6 +40,7 @@ pub going-turn : (bytes₀ : List ℕ) (gone : ℕ) (bytes : List ℕ) (rest k n
 going-turn bytes₀ gone bytes rest k next h t =
     record {
       fits = t .fits;
+      long = length-set bytes k 0 ∙ h .long;
       left = λ j. by-bool (eqb j k) (λ e. itself j (eqb-true j k e)) (other j) ∙ h .left j;
     }
   where
@@ -48,8 +50,9 @@ going-turn bytes₀ gone bytes rest k next h t =
     other : (j : ℕ) → eqb j k ≡ false → kept next j (getD (set bytes k 0) j 0) ≡ kept rest j (getD bytes j 0)
     other j e = rw (getD-set-other bytes k j 0 0 (eqb-false j k e), t .members j, e, and-true)
 
-pub going-end : (bytes₀ : List ℕ) (gone : ℕ) (bytes : List ℕ) (rest : ℕ) → rest ≡ 0 → Going bytes₀ gone bytes rest → (k : ℕ) → getD bytes k 0 ≡ kept gone k (getD bytes₀ k 0)
-going-end bytes₀ gone bytes rest e h k = sym (rw (e, member-empty k)) ∙ h .left k
+pub going-end : (bytes₀ : List ℕ) (gone : ℕ) (bytes : List ℕ) (rest : ℕ) → rest ≡ 0 → Going bytes₀ gone bytes rest → Changed (kept gone) bytes₀ bytes
+going-end bytes₀ gone bytes rest e h =
+    record { long = h .long; each = λ k. sym (rw (e, member-empty k)) ∙ h .left k }
 
 -- ---- sets
 
@@ -81,9 +84,12 @@ difference-empty gone =
     no-members 64 (difference 0 gone) (difference-fits 64 0 gone (omega arith))
     (λ k l. rw (member-difference, member-empty))
 
-pub cleared-all : (words₀ : List ℕ) (gone : ℕ) (words : List ℕ) → length words₀ ≡ 128 → ClearedTo words₀ gone words 128 → (j : ℕ) → getD words j 0 ≡ difference (getD words₀ j 0) gone
-cleared-all words₀ gone words long h j =
-    by-bool (ltb j 128) (λ t. h .done j (ltb-true j 128 t))
-    (λ t. let l = ltb-false j 128 t in
-    let past : getD words₀ j 0 ≡ 0 = List·getD-eq-default words₀ 0 (rw long l) in
-    h .left j l ∙ rw (past, difference-empty gone))
+pub cleared-all : (words₀ : List ℕ) (gone : ℕ) (words : List ℕ) → length words₀ ≡ 128 → ClearedTo words₀ gone words 128 → Changed (λ j s. difference s gone) words₀ words
+cleared-all words₀ gone words long h = record { long = h .long ∙ sym long; each = each }
+  where
+    each : (j : ℕ) → getD words j 0 ≡ difference (getD words₀ j 0) gone
+    each j =
+        by-bool (ltb j 128) (λ t. h .done j (ltb-true j 128 t))
+        (λ t. let l = ltb-false j 128 t in
+        let past : getD words₀ j 0 ≡ 0 = List·getD-eq-default words₀ 0 (rw long l) in
+        h .left j l ∙ rw (past, difference-empty gone))

@@ -31,10 +31,25 @@ pub mod Lines
 pub mod Heirs
 pub mod Families
 pub mod Cleared
+-- The trace player:
+-- InPlace: what a request leaves in four arrays of a sound bench.
+-- LineEnds: what a line's end is answered and leaves in the arrays.
+-- FeedLaws: bytes fed one at a time: what is written, and what is left to feed.
+pub mod InPlace
+pub mod LineEnds
+pub mod FeedLaws
+-- BegunLines: a line that has begun, fed byte by byte, and its request.
+-- LineFeeding: feeding byte by byte plays the lines of a trace, however its bytes are cut.
+-- TraceCases: document 01's whole case and lines of other shapes, computed.
+pub mod BegunLines
+pub mod LineFeeding
+pub mod TraceCases
 -- What a reader ends at:
 -- Unique: the reading of a record as a bench loses nothing, so each request has one result.
 -- KeptSound: from what the methods ensure, soundness is kept.
 -- Demands: demands 2 and 3 of what the methods return.
+-- Traces: the trace player's output is the definition's, however the input is cut.
 pub mod Unique
 pub mod KeptSound
 pub mod Demands
+pub mod Traces

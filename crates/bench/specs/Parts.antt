@@ -132,3 +132,8 @@ pub record Jumped (before after : List ℕ) (left : ℕ) : Type 0 where
 -- what is left of number k's byte when the numbers of a set have gone
 abbrev pub kept : ℕ → ℕ → ℕ → ℕ
 kept gone k byte = if member gone k then 0 else byte
+
+-- An array of numbers after each was replaced: as long as before, and at place k what `at k` makes of the number there.
+pub record Changed (at : ℕ → ℕ → ℕ) (before after : List ℕ) : Type 0 where
+  pub long : length after ≡ length before
+  pub each : (k : ℕ) → getD after k 0 ≡ at k (getD before k 0)

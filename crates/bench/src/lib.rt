@@ -1,7 +1,9 @@
 // The bench: 64 action numbers, 128 instruments, six requests by Moss's rules.
 pub mod answers;
 mod clear;
+mod engine;
 mod index;
+mod play;
 mod sound;
 mod tree;
 
@@ -32,6 +34,21 @@ pub struct Bench {
 pub struct Reply {
     pub bench: Bench,
     pub answer: u8,
+}
+
+// A trace player: a bench, and what is known of the line that has begun, `count` digits that write `value`; a count of 7 where no request can come of
+// it any more.
+pub struct Player {
+    pub bench: Bench,
+    pub count: u8,
+    pub value: u32,
+}
+
+// What feeding hands back: the player, how many bytes of the input were taken and how many were written.
+pub struct Fed {
+    pub player: Player,
+    pub used: usize,
+    pub written: usize,
 }
 
 impl Bench {

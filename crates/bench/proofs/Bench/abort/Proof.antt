@@ -64,10 +64,10 @@ returns c =
     (family-left (b .parents) (b .states) (b .reads) (b .writes) (parents .clear-bytes .last .0) (states .clear-bytes2 .last .0)
     (reads .clear-sets .last .0) (c .clear-sets2 .last .0) (args .a % 64) (gathered .family .result) (gathered .family .ensures)
     (record {
-      parentsKept = parents .clear-bytes .ensures;
-      statesKept = states .clear-bytes2 .ensures;
-      readsLeft = reads .clear-sets .ensures;
-      writesLeft = c .clear-sets2 .ensures;
+      parentsKept = parents .clear-bytes .ensures .each;
+      statesKept = states .clear-bytes2 .ensures .each;
+      readsLeft = reads .clear-sets .ensures .each;
+      writesLeft = c .clear-sets2 .ensures .each;
     }))
     (answered .before .abort-answer .ensures) (answered .if1 .taken)
 

@@ -38,10 +38,10 @@ returns c =
     family-left (self .parents) (self .states) (self .reads) (self .writes) (parents .clear-bytes .last .0) (states .clear-bytes2 .last .0)
     (reads .clear-sets .last .0) (c .clear-sets2 .last .0) (s .args .a) (gathered .family .result) (gathered .family .ensures)
     (record {
-      parentsKept = parents .clear-bytes .ensures;
-      statesKept = states .clear-bytes2 .ensures;
-      readsLeft = reads .clear-sets .ensures;
-      writesLeft = c .clear-sets2 .ensures;
+      parentsKept = parents .clear-bytes .ensures .each;
+      statesKept = states .clear-bytes2 .ensures .each;
+      readsLeft = reads .clear-sets .ensures .each;
+      writesLeft = c .clear-sets2 .ensures .each;
     })
 
 pub without-family-spec : {M : Type 1} → statement M

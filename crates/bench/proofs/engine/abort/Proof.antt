@@ -1,0 +1,40 @@
+-- `abort` meets its contract: the row is the answer of a sound bench; where it is 0, the family has left all four arrays, and else the arrays are as
+-- they came. Assumes nothing.
+use native.Mathlib.Omega.{arith}
+use borrow.Author.Needs.{needs}
+use Rattle.rules.specs.Requests.{abort}
+use Rattle.bench.proofs.InPlace.{abort-found, refused-in-place, abort-in-place}
+use Rattle.bench.proofs.engine.abort.Statement.{statement}
+use Rattle.bench.proofs.engine.abort.Tie as tie
+
+abort-row-requires : tie.Need-abort-row-requires
+abort-row-requires c κs = search needs
+
+cast-free-family : tie.Need-cast-free-family
+cast-free-family c = search needs
+
+free-family-requires : tie.Need-free-family-requires
+free-family-requires c κs =
+    let s = c .before .before .before .before .before .before .before in
+    (s .pre, omega arith)
+
+returns : tie.Need-returns
+returns c =
+    let granted = c .before .before .before .before .before in
+    let s = granted .before .before .before in
+    let args = s .args in
+    let row = granted .before .abort-row in
+    abort-in-place (s .pre) (args .a) (row .result) (c .free-family .ensures)
+    (abort-found (s .pre) (args .a) (row .result) (row .ensures)) (granted .if1 .taken)
+
+returns-2 : tie.Need-returns-2
+returns-2 c =
+    let s = c .before .before .before in
+    let args = s .args in
+    let row = c .before .abort-row in
+    refused-in-place (s .pre) (abort (args .a)) (row .result)
+    (abort-found (s .pre) (args .a) (row .result) (row .ensures)) (c .if1 .left)
+
+pub abort-spec : {M : Type 1} → statement M
+abort-spec =
+    tie.close (tie.spec abort-row-requires cast-free-family free-family-requires returns returns-2)

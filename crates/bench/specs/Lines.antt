@@ -1,0 +1,84 @@
+-- Trace lines (document 01, "Trace lines"): from any bytes to lines, from a line to a request, from a trace to its answers and the final bench.
+use mathlib.Core.Bool.{Bool, true, false, _&&_}
+use mathlib.Core.List.{List, [], _∷_, _++_}
+use mathlib.Core.Option.{Option, none, some}
+use Prim.Native.Nat.{ℕ, _+_, _*_}
+use lib.Dec.{eqb, ltb}
+use Rattle.digits.specs.Digits.{hexDigit, digitOf}
+use Rattle.rules.specs.Tests.{if_then_else_}
+use Rattle.rules.specs.Bench as rules
+use Rattle.rules.specs.Requests.{Request, openTop, openSub, commit, abort}
+use Rattle.rules.specs.Answers.{Outcome, step}
+use Rattle.rules.specs.ReadWrite.{readWrite, read, write}
+
+-- the first line with one more character in front
+abbrev pub before : ℕ → List (List ℕ) → List (List ℕ)
+before c [] = (c ∷ []) ∷ []
+before c (line ∷ rest) = (c ∷ line) ∷ rest
+
+-- The lines of a trace: each ended by byte 0a; the last may lack its 0a if it has at least one character.
+unfoldable pub linesOf : List ℕ → List (List ℕ)
+linesOf [] = []
+linesOf (c ∷ rest) = if eqb c 10 then [] ∷ linesOf rest else before c (linesOf rest)
+
+-- Digits 0-9 and a-f only.
+abbrev pub areDigits : List ℕ → Bool
+areDigits [] = true
+areDigits (c ∷ rest) = ltb (digitOf c) 16 && areDigits rest
+
+-- two digits a byte
+abbrev pub byteOf : ℕ → ℕ → ℕ
+byteOf high low = digitOf high * 16 + digitOf low
+
+-- a frame of two bytes: 01 nn open top, 05 aa commit, 06 aa abort
+abbrev pub shortFrame : ℕ → ℕ → Option Request
+shortFrame code n =
+    if eqb code 1 then some (openTop n)
+    else if eqb code 5 then some (commit n)
+    else if eqb code 6 then some (abort n)
+    else none
+
+-- a frame of three bytes: 02 nn pp open sub, 03 aa ii read, 04 aa ii write
+abbrev pub longFrame : ℕ → ℕ → ℕ → Option Request
+longFrame code x y =
+    if eqb code 2 then some (openSub x y)
+    else if eqb code 3 then some (read x y)
+    else if eqb code 4 then some (write x y)
+    else none
+
+-- the frame of a line of four or of six characters
+abbrev pub frameOf : List ℕ → Option Request
+frameOf [] = none
+frameOf (a ∷ []) = none
+frameOf (a ∷ b ∷ []) = none
+frameOf (a ∷ b ∷ c ∷ []) = none
+frameOf (a ∷ b ∷ c ∷ d ∷ []) = shortFrame (byteOf a b) (byteOf c d)
+frameOf (a ∷ b ∷ c ∷ d ∷ e ∷ []) = none
+frameOf (a ∷ b ∷ c ∷ d ∷ e ∷ f ∷ []) = longFrame (byteOf a b) (byteOf c d) (byteOf e f)
+frameOf (a ∷ b ∷ c ∷ d ∷ e ∷ f ∷ g ∷ rest) = none
+
+-- The request of a line. Any other line, an empty one or one with a carriage return too, has none.
+unfoldable pub requestOf : List ℕ → Option Request
+requestOf line = if areDigits line then frameOf line else none
+
+-- What a line does: 8 and nothing changes where it has no request, else as its request.
+abbrev pub answered : rules.Bench → Option Request → Outcome
+answered b none = record { answer = 8; next = b }
+answered b (some r) = step readWrite b r
+
+-- the answer as two hexadecimal digits, and 0a
+abbrev pub answerText : ℕ → List ℕ
+answerText a = 48 ∷ hexDigit a ∷ 10 ∷ []
+
+-- what is written for lines, and the bench that they leave
+unfoldable pub written : rules.Bench → List (List ℕ) → List ℕ
+written b [] = []
+written b (line ∷ rest) = let o = answered b (requestOf line) in answerText (o .answer) ++ written (o .next) rest
+
+unfoldable pub leftBy : rules.Bench → List (List ℕ) → rules.Bench
+leftBy b [] = b
+leftBy b (line ∷ rest) = leftBy (answered b (requestOf line) .next) rest
+
+-- A trace's output, from an empty bench.
+unfoldable pub outputOf : List ℕ → List ℕ
+outputOf trace = written rules.empty (linesOf trace)

@@ -1,0 +1,31 @@
+// Hexadecimal digits: 0 to 9 and a to f.
+ghost use mathlib.Core.Path.{_≡_};
+ghost use Prim.Native.Nat.{_%_};
+ghost use Rattle.digits.specs.Digits.{hexDigit, digitOf};
+
+// The value of a character 0-9 or a-f, and 16 for any other byte.
+pub fn value(c: u8) -> u8
+    ensures { λ r. ⌜ r ≡ digitOf c ⌝ }
+{
+    if c < 48 {
+        return 16;
+    }
+    if c <= 57 {
+        return c - 48;
+    }
+    if c < 97 {
+        return 16;
+    }
+    if c <= 102 {
+        return c - 87;
+    }
+    16
+}
+
+// The character of the lowest digit of d.
+pub fn character(d: u8) -> u8
+    ensures { λ r. ⌜ r ≡ hexDigit (d % 16) ⌝ }
+{
+    let low = d % 16;
+    if low < 10 { 48 + low } else { 87 + low }
+}
