@@ -8,13 +8,7 @@ use lib.Dec.{eqb, leb, ltb}
 use lib.ListN.{length, getD, set, replicate}
 use Rattle.rules.specs.Tests.{if_then_else_, all}
 use Rattle.bench.specs.declared.Bench.{Bench}
-
--- the value of a digit 0-9 or a-f, and 16 for a byte that is neither
-abbrev pub digitOf : ℕ → ℕ
-digitOf c =
-    if leb 48 c && leb c 57 then c - 48
-    else if leb 97 c && leb c 102 then c - 87
-    else 16
+pub use Rattle.digits.specs.Digits.{digitOf}
 
 -- n digits stand in the text from place `at` on
 unfoldable pub digitsAt : List ℕ → ℕ → ℕ → Bool

@@ -3,14 +3,11 @@
 use mathlib.Core.Bool.{Bool, _&&_}
 use mathlib.Core.List.{List, [], _∷_, _++_}
 use Prim.Native.Nat.{ℕ, zero, suc, _+_, _/_, _%_, _^_}
-use lib.Dec.{eqb, ltb}
+use lib.Dec.{eqb}
 use lib.ListN.{getD}
 use Rattle.rules.specs.Tests.{if_then_else_}
 use Rattle.bench.specs.declared.Bench.{Bench}
-
--- the character of a digit below 16: 0 to 9, a to f
-abbrev pub hexDigit : ℕ → ℕ
-hexDigit d = if ltb d 10 then 48 + d else 87 + d
+pub use Rattle.digits.specs.Digits.{hexDigit}
 
 -- x in n hexadecimal digits, the highest leftmost
 unfoldable pub hexOf : ℕ → ℕ → List ℕ

@@ -6,19 +6,6 @@ ghost use lib.Dec.{eqb};
 ghost use lib.ListN.{length};
 ghost use Rattle.saved.specs.Shape.{digitOf, numberAt, frameAt, parentByte, takeAction, takeInstrument, takeFrom};
 
-// The value of a digit 0-9 or a-f, and 16 for a byte that is neither.
-fn digit(c: u8) -> u8
-    ensures { λ r. ⌜ r ≡ digitOf c ⌝ }
-{
-    if (b'0' <= c) & (c <= b'9') {
-        return c - b'0';
-    }
-    if (b'a' <= c) & (c <= b'f') {
-        return c - 87;
-    }
-    16
-}
-
 // Whether n digits and a 0a stand in the text from place `at` on.
 fn frame_at(text: &[u8], at: usize, n: usize) -> bool
     ensures { λ r. ⌜ r ≡ frameAt (now (text .entry)) at n ⌝ }
@@ -31,7 +18,7 @@ fn frame_at(text: &[u8], at: usize, n: usize) -> bool
     }
     let mut ok = true;
     for j in 0..n {
-        ok = ok & (digit(text[at + j]) < 16);
+        ok = ok & (digits::value(text[at + j]) < 16);
     }
     ok & (text[at + n] == b'\n')
 }
@@ -40,7 +27,7 @@ fn frame_at(text: &[u8], at: usize, n: usize) -> bool
 fn value_of(c: u8) -> u64
     ensures { λ r. ⌜ r ≡ digitOf c % 16 ⌝ }
 {
-    (digit(c) % 16) as u64
+    (digits::value(c) % 16) as u64
 }
 
 // The number that n digits write.

@@ -22,20 +22,12 @@ fn parent_digits(parent: u8) -> u64
     if parent == 0 { 0xff } else { wide(parent) - 1 }
 }
 
-// The character of a digit below 16.
-fn hex_digit(d: u8) -> u8
-    requires { ⌜ d < 16 ⌝ }
-    ensures { λ r. ⌜ r ≡ hexDigit d ⌝ }
-{
-    if d < 10 { 48 + d } else { 87 + d }
-}
-
 // The character of the digit of x that has `left` digits behind it.
 fn digit(x: u64, left: usize) -> u8
     requires { ⌜ left < 16 ⌝ }
     ensures { λ r. ⌜ r ≡ hexDigit (x / 16 ^ left % 16) ⌝ }
 {
-    hex_digit(((x >> (4 * left)) % 16) as u8)
+    digits::character(((x >> (4 * left)) % 16) as u8)
 }
 
 // Writes x in n digits from place `at` on.

@@ -34,14 +34,14 @@ loop-holds : tie.Need-loop-holds Inv-loop μ-loop
 unfolding digitsAt all
 loop-holds c = search needs
 
-add-digit : tie.Need-add-digit Inv-loop μ-loop
-add-digit c = search needs
+add-value : tie.Need-add-value Inv-loop μ-loop
+add-value c = search needs
 
-shared-slice-read-digit : tie.Need-shared-slice-read-digit Inv-loop μ-loop
-shared-slice-read-digit c = search needs
+shared-slice-read-value : tie.Need-shared-slice-read-value Inv-loop μ-loop
+shared-slice-read-value c = search needs
 
-digit-requires : tie.Need-digit-requires Inv-loop μ-loop
-digit-requires c κs = search needs
+value-requires : tie.Need-value-requires Inv-loop μ-loop
+value-requires c κs = search needs
 
 add-j : tie.Need-add-j Inv-loop μ-loop
 add-j c = search needs
@@ -52,7 +52,7 @@ loop-less c = search needs
 loop-again : tie.Need-loop-again Inv-loop μ-loop
 loop-again c =
     let l = c .before .before .before in
-    (search needs, rw (digits-more, c .digit .ensures, l .loop .inv .1))
+    (search needs, rw (digits-more, c .value .ensures, l .loop .inv .1))
 
 add-result : tie.Need-add-result Inv-loop μ-loop
 add-result c = search needs
@@ -76,9 +76,9 @@ frame-at-spec =
     sub-if2
     returns-2
     loop-holds
-    add-digit
-    shared-slice-read-digit
-    digit-requires
+    add-value
+    shared-slice-read-value
+    value-requires
     add-j
     loop-less
     loop-again

@@ -1,24 +1,25 @@
 -- `digit` meets its contract: a shift by four bits a digit is a division by a power of 16. Assumes nothing.
+use native.Mathlib.Nat.{mod-mod}
 use borrow.Author.Needs.{needs}
 use Rattle.saved.proofs.WrittenDigits.{shift-digits}
 use Rattle.saved.proofs.write.digit.Statement.{statement}
 use Rattle.saved.proofs.write.digit.Tie as tie
 
-mul-hex-digit : tie.Need-mul-hex-digit
-mul-hex-digit c = search needs
+mul-character : tie.Need-mul-character
+mul-character c = search needs
 
-shr-hex-digit : tie.Need-shr-hex-digit
-shr-hex-digit c = search needs
+shr-character : tie.Need-shr-character
+shr-character c = search needs
 
-cast-hex-digit : tie.Need-cast-hex-digit
-cast-hex-digit c = search needs
+cast-character : tie.Need-cast-character
+cast-character c = search needs
 
-hex-digit-requires : tie.Need-hex-digit-requires
-hex-digit-requires c κs = search needs
+character-requires : tie.Need-character-requires
+character-requires c κs = search needs
 
 returns : tie.Need-returns
-returns c = rw (c .hex-digit .ensures, shift-digits)
+returns c = rw (c .character .ensures, shift-digits, mod-mod)
 
 pub digit-spec : {M : Type 1} → statement M
 digit-spec =
-    tie.close (tie.spec mul-hex-digit shr-hex-digit cast-hex-digit hex-digit-requires returns)
+    tie.close (tie.spec mul-character shr-character cast-character character-requires returns)
