@@ -61,6 +61,7 @@ class Trace:
 
 # kind: numbers, instruments, weights of (top, sub, read, write, commit leaf, abort, commit any, malformed, any numbers), and how a parent is chosen
 KINDS = {
+    "mixed": (64, 128, (6, 16, 34, 30, 10, 1, 1, 1, 1), Trace.runner),
     "shallow": (16, 20, (10, 10, 30, 30, 12, 4, 2, 1, 1), Trace.runner),
     "deep": (64, 30, (2, 30, 20, 20, 8, 1, 1, 1, 1), Trace.deepest),
     "siblings": (64, 12, (3, 25, 25, 25, 15, 2, 2, 1, 1), Trace.runner),
