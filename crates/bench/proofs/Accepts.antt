@@ -10,9 +10,9 @@ use Rattle.rules.specs.Answers.{answerOf, step}
 use Rattle.rules.specs.ReadWrite.{readWrite, read, write}
 use Rattle.rules.proofs.Accepted.{Accepted, OpensTop, OpensSub, Asks, Commits, Aborts}
 use Rattle.bench.specs.declared.Bench.{Bench}
-use Rattle.bench.specs.View.{viewed, seen}
-use Rattle.bench.proofs.Stores.{open-top-shown, open-sub-shown, read-shown, write-shown, commit-top-shown, commit-sub-shown}
-use Rattle.bench.proofs.Steps.{granted-by, step-accepted}
+use Rattle.bench.specs.Record.{viewed, seen}
+use Rattle.views.proofs.Stores.{open-top-shown, open-sub-shown, read-shown, write-shown, commit-top-shown, commit-sub-shown}
+use Rattle.views.proofs.Steps.{granted-by, step-accepted}
 
 -- the record b as it came, and the request's answer
 module _ (b : Bench) (answer : ℕ) where

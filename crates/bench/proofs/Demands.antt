@@ -14,7 +14,7 @@ use Rattle.rules.specs.Merging.{Apart, Merging, firsts, seconds}
 use Rattle.rules.proofs.DemandTwo.{demand-two}
 use Rattle.rules.proofs.DemandThree.{demand-three, read-write-symmetric}
 use Rattle.bench.specs.declared.Bench.{Bench}
-use Rattle.bench.specs.View.{viewed, seen}
+use Rattle.bench.specs.Record.{viewed, seen}
 use Rattle.bench.specs.Plays.{Plays, played, then}
 use Rattle.bench.proofs.Unique.{Fits, view-injective}
 

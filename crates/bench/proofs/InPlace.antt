@@ -14,11 +14,11 @@ use Rattle.rules.specs.Sound.{sound}
 use Rattle.rules.specs.ReadWrite.{readWrite, read, write}
 use Rattle.rules.proofs.Kept.{step-keeps-sound}
 use Rattle.bench.specs.declared.Bench.{Bench}
-use Rattle.bench.specs.View.{view}
-use Rattle.bench.specs.Parts.{tree, SoundTree, InUse}
-use Rattle.bench.specs.Arrays.{SoundArrays, Stepped, Freed}
-use Rattle.bench.proofs.Steps.{answer-sound, step-refused}
-use Rattle.bench.proofs.Rows.{askRow, read-requires, write-requires, read-answered, write-answered}
+use Rattle.views.specs.View.{view}
+use Rattle.views.specs.Parts.{tree, SoundTree, InUse}
+use Rattle.lines.specs.Arrays.{SoundArrays, Stepped, Freed}
+use Rattle.views.proofs.Steps.{answer-sound, step-refused}
+use Rattle.views.proofs.Rows.{askRow, read-requires, write-requires, read-answered, write-answered}
 use Rattle.bench.proofs.Accepts.{open-top-accepted, open-sub-accepted, read-accepted, write-accepted, commit-top-accepted, commit-sub-accepted, abort-accepted}
 
 module _ {parents states reads writes : List ℕ} (pre : SoundArrays parents states reads writes) where

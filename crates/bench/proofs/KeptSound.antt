@@ -9,7 +9,7 @@ use Rattle.rules.specs.ReadWrite.{readWrite}
 use Rattle.rules.proofs.Kept.{empty-sound, step-keeps-sound}
 use Rattle.bench.specs.declared.Bench.{Bench}
 use Rattle.bench.specs.declared.Reply.{Reply}
-use Rattle.bench.specs.View.{viewed, seen}
+use Rattle.bench.specs.Record.{viewed, seen}
 
 pub reply-keeps-sound : (b : Bench) (r : Reply) (q : Request) → sound readWrite (viewed b) ≡ true → seen r ≡ step readWrite (viewed b) q → sound readWrite (viewed (r .bench)) ≡ true
 reply-keeps-sound b r q ok e = ap (λ o. sound readWrite (o .next)) e ∙ step-keeps-sound readWrite (viewed b) q ok

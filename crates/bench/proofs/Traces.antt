@@ -6,10 +6,11 @@ use lib.ListN.{length, take, drop}
 use lib.Seq.{take-at}
 use Rattle.rules.specs.Bench.{empty}
 use Rattle.bench.specs.declared.Player.{Player}
-use Rattle.bench.specs.Lines.{outputOf}
-use Rattle.bench.specs.Feeding.{Feeding, between, fed, said, saidAtEnd, feeding, taken}
+use Rattle.lines.specs.Lines.{outputOf}
+use Rattle.lines.specs.Feeding.{Feeding, between, fed, said, saidAtEnd, taken}
+use Rattle.bench.specs.Feeding.{feeding}
 use Rattle.bench.specs.Feeds.{Feeds, stopped, then}
-use Rattle.bench.proofs.LineFeeding.{fed-append, said-append, output-of-feeding}
+use Rattle.lines.proofs.LineFeeding.{fed-append, said-append, output-of-feeding}
 
 -- Whatever was taken, what was written and where the player stands are what those bytes lead to.
 pub feeds-as : {p q : Player} {xs ys : List ℕ} → Feeds p xs ys q → (ys ≡ said (feeding p) xs) × (feeding q ≡ fed (feeding p) xs)

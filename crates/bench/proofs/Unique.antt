@@ -16,7 +16,8 @@ use Rattle.rules.specs.Answers.{Outcome, answerOf, step}
 use Rattle.rules.specs.ReadWrite.{readWrite}
 use Rattle.bench.specs.declared.Bench.{Bench}
 use Rattle.bench.specs.declared.Reply.{Reply}
-use Rattle.bench.specs.View.{stateOf, parentOf, viewed, seen}
+use Rattle.views.specs.View.{stateOf, parentOf}
+use Rattle.bench.specs.Record.{viewed, seen}
 
 -- A record as the language has it: the arrays have their lengths, and each set is a word of 64 bits. Of bytes nothing need be said.
 pub record Fits (b : Bench) : Type 0 where

@@ -1,7 +1,5 @@
-pub mod View
-pub mod Parts
+pub mod Record
 pub mod Plays
-pub mod Lines
-pub mod Arrays
 pub mod Feeding
 pub mod Feeds
+pub mod Image

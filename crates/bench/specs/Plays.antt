@@ -7,7 +7,7 @@ use Rattle.rules.specs.Answers.{step}
 use Rattle.rules.specs.ReadWrite.{readWrite}
 use Rattle.bench.specs.declared.Bench.{Bench}
 use Rattle.bench.specs.declared.Reply.{Reply}
-use Rattle.bench.specs.View.{viewed, seen}
+use Rattle.bench.specs.Record.{viewed, seen}
 
 -- r is what the method of request q returns on record b: the `ensures` of each of the six.
 abbrev pub Returns : Bench → Request → Reply → Type 0

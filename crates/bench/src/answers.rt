@@ -1,16 +1,16 @@
 // The answers: 7 where the record isn't sound, and else the first row of document 01's table that applies.
-use crate::index::FREE;
-use crate::index::RUNNING;
-use crate::sound::sound;
 use crate::tree::heirs_in_line;
 use crate::tree::running_child;
+use soundness::index::FREE;
+use soundness::index::RUNNING;
+use soundness::sound;
 ghost use mathlib.Core.Path.{_≡_};
 ghost use mathlib.Core.List.{[]};
 ghost use Rattle.rules.specs.Requests.{openTop, openSub, ask, commit, abort};
 ghost use Rattle.rules.specs.Answers.{row, rowBy, answerOf};
 ghost use Rattle.rules.specs.ReadWrite.{readWrite, read, write};
-ghost use Rattle.bench.specs.View.{view};
-ghost use Rattle.bench.specs.Parts.{tree, SoundTree, InUse, ownersInLine};
+ghost use Rattle.views.specs.View.{view};
+ghost use Rattle.views.specs.Parts.{tree, SoundTree, InUse, ownersInLine};
 
 // The answer numbers.
 pub const ACCEPTED: u8 = 0;

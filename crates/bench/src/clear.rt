@@ -2,7 +2,7 @@
 ghost use mathlib.Core.Path.{_≡_};
 ghost use lib.ListN.{length};
 ghost use Rattle.sets.specs.Sets.{difference};
-ghost use Rattle.bench.specs.Parts.{kept, Changed};
+ghost use Rattle.views.specs.Parts.{kept, Changed};
 
 // The numbers that have gone leave an array of 64 bytes.
 pub(crate) fn clear_bytes(bytes: &mut [u8; 64], gone: u64)
@@ -12,7 +12,7 @@ pub(crate) fn clear_bytes(bytes: &mut [u8; 64], gone: u64)
     while rest != 0 {
         let k = sets::least(rest);
         bytes[k] = 0;
-        rest = sets::without(rest, k);
+        rest = sets::without_least(rest);
     }
 }
 

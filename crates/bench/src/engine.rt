@@ -7,16 +7,16 @@ use crate::answers::open_sub_row;
 use crate::answers::open_top_row;
 use crate::clear::clear_bytes;
 use crate::clear::clear_sets;
-use crate::index::COMMITTED;
-use crate::index::RUNNING;
 use crate::tree::family;
+use soundness::index::COMMITTED;
+use soundness::index::RUNNING;
 ghost use mathlib.Core.Path.{_≡_};
 ghost use mathlib.Core.Option.{some};
 ghost use Prim.Native.Nat.{_<_};
 ghost use Rattle.rules.specs.Requests.{openTop, openSub, commit, abort};
 ghost use Rattle.rules.specs.ReadWrite.{read, write};
-ghost use Rattle.bench.specs.Arrays.{SoundArrays, Stepped, Freed};
-ghost use Rattle.bench.specs.Feeding.{framed};
+ghost use Rattle.lines.specs.Arrays.{SoundArrays, Stepped, Freed};
+ghost use Rattle.lines.specs.Feeding.{framed};
 
 // A line that is malformed has no request.
 pub const MALFORMED: u8 = 8;

@@ -1,15 +1,16 @@
 // The bench: 64 action numbers, 128 instruments, six requests by Moss's rules.
 pub mod answers;
 mod clear;
+mod ends;
 mod engine;
-mod index;
+mod frames;
+pub mod image;
 mod play;
-mod sound;
 mod tree;
 
 use answers::ACCEPTED;
-use index::COMMITTED;
-use index::RUNNING;
+use soundness::index::COMMITTED;
+use soundness::index::RUNNING;
 ghost use mathlib.Core.Path.{_≡_};
 ghost use mathlib.Core.Bool.{true};
 ghost use Prim.Native.Nat.{_<_};
@@ -19,7 +20,9 @@ ghost use Rattle.rules.specs.Sound.{sound};
 ghost use Rattle.rules.specs.Requests.{openTop, openSub, commit, abort, without};
 ghost use Rattle.rules.specs.Answers.{step};
 ghost use Rattle.rules.specs.ReadWrite.{readWrite, read, write};
-ghost use Rattle.bench.specs.View.{viewed, seen};
+ghost use Rattle.bench.specs.Record.{viewed, seen};
+ghost use Rattle.lines.specs.Feeding.{between};
+ghost use Rattle.bench.specs.Feeding.{feeding};
 
 // Parents and states over 64 numbers, read and write sets over 128 instruments. A parent's byte is 0 for none and else one more than the parent's
 // number; a state's byte is 0 free, 1 running, 2 committed; a set's bit k is number k.
@@ -73,7 +76,7 @@ impl Bench {
     pub fn is_sound(self) -> bool
         ensures { λ r. ⌜ r ≡ sound readWrite (viewed self) ⌝ }
     {
-        sound::sound(&self.parents, &self.states, &self.reads, &self.writes)
+        soundness::sound(&self.parents, &self.states, &self.reads, &self.writes)
     }
 
     // Makes n a running top action.
@@ -230,6 +233,19 @@ impl Bench {
         Reply {
             bench: self,
             answer: answer,
+        }
+    }
+}
+
+impl Player {
+    // A player on an empty bench, before any line.
+    pub fn new() -> Player
+        ensures { λ r. ⌜ feeding r ≡ between empty ⌝ }
+    {
+        Player {
+            bench: Bench::empty(),
+            count: 0,
+            value: 0,
         }
     }
 }

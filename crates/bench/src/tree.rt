@@ -1,11 +1,12 @@
 // The tree of actions, on parents and states: running children, the line of ancestors, heirs, and families. These rely on a sound bench.
-use crate::index::RUNNING;
-use crate::index::wide;
-use crate::sound::parents_lower;
+use soundness::index::RUNNING;
+use soundness::index::wide;
+use soundness::parents_lower;
+use soundness::upper_child;
 ghost use mathlib.Core.Path.{_≡_};
-ghost use mathlib.Core.Bool.{true, false, _&&_};
+ghost use mathlib.Core.Bool.{true, false, _&&_, cond};
 ghost use mathlib.Core.Option.{some};
-ghost use Prim.Native.Nat.{ℕ, _<_};
+ghost use Prim.Native.Nat.{ℕ, _+_, _≤_, _<_};
 ghost use lib.Dec.{eqb};
 ghost use lib.ListN.{length, getD};
 ghost use Rattle.sets.specs.Sets.{member};
@@ -13,8 +14,8 @@ ghost use Rattle.rules.specs.Tests.{any};
 ghost use Rattle.rules.specs.Bench.{isFree, isRunning};
 ghost use Rattle.rules.specs.Owners.{heir};
 ghost use Rattle.rules.specs.ReadWrite.{readWrite};
-ghost use Rattle.bench.specs.View.{stateOf};
-ghost use Rattle.bench.specs.Parts.{tree, SoundTree, SoundParents, InUse, ownersInLine, inLine, descends, adopted, Grown};
+ghost use Rattle.views.specs.View.{stateOf};
+ghost use Rattle.views.specs.Parts.{tree, SoundTree, SoundParents, InUse, ownersInLine, inLine, descends, parentIn, adopted, GrownTo, Grown};
 
 // Whether a number whose parent's byte is `parent` runs.
 pub(crate) fn running_child<'a>(parents: &'a [u8; 64], states: &'a [u8; 64], parent: u8) -> bool
@@ -75,22 +76,38 @@ pub(crate) fn heirs_in_line<'a>(
         if !sets::member(line, h) {
             return false;
         }
-        rest = sets::without(rest, k);
+        rest = sets::without_least(rest);
     }
     true
 }
 
+// 1 where the number that a parent's byte names is in the set, else 0. Without a branch, since nobody can guess whose child comes next.
+fn parent_in(set: u64, up: u8) -> u64
+    requires { ⌜ up ≤ 64 ⌝ }
+    ensures { λ r. ⌜ r ≡ cond (parentIn set up) 1 0 ⌝ }
+{
+    let ahead = wide(up) + 63;
+    (set >> (ahead % 64)) & ((ahead / 64) as u64)
+}
+
 // The set with k where the number that k's parent byte names is in it.
 fn adopting(set: u64, k: usize, up: u8) -> u64
+    requires { ⌜ (k < 64) × (up ≤ 64) ⌝ }
     ensures { λ r. ⌜ r ≡ adopted set k up ⌝ }
 {
-    if up == 0 {
-        return set;
+    set | (parent_in(set, up) << (k % 64))
+}
+
+// The set with the children among 32 numbers, and with the children that those bring in on the way.
+fn adopting_half(parents: &[u8; 64], set: u64, from: usize) -> u64
+    requires { ⌜ SoundParents (now parents) × (from ≤ 32) ⌝ }
+    ensures { λ r. ⌜ ((start : ℕ) → GrownTo (now (parents .entry)) start set from → GrownTo (now (parents .entry)) start r (from + 32)) ⌝ }
+{
+    let mut grown = set;
+    for k in from..from + 32 {
+        grown = adopting(grown, k, parents[k]);
     }
-    if sets::member(set, wide(up - 1)) {
-        return sets::with(set, k);
-    }
-    set
+    grown
 }
 
 // The set with its numbers' children, and with the children that those bring in on the way.
@@ -98,9 +115,9 @@ fn with_children(parents: &[u8; 64], set: u64) -> u64
     requires { ⌜ SoundParents (now parents) ⌝ }
     ensures { λ r. ⌜ Grown (now (parents .entry)) set r ⌝ }
 {
-    let mut grown = set;
-    for k in 0..64usize {
-        grown = adopting(grown, k, parents[k]);
+    let grown = adopting_half(parents, set, 0);
+    if upper_child(parents) {
+        return adopting_half(parents, grown, 32);
     }
     grown
 }
@@ -121,17 +138,18 @@ pub(crate) fn family(parents: &[u8; 64], a: usize) -> u64
     requires { ⌜ SoundParents (now parents) × (a < 64) × (length (now parents) ≡ 64) ⌝ }
     ensures { λ r. ⌜ ((k : ℕ) → member r k ≡ descends (now (parents .entry)) a k) ⌝ }
 {
-    let mut set = sets::with(0, a);
+    let mut grown = sets::with(0, a);
     if !has_child(parents, (a % 64) as u8 + 1) {
-        return set;
-    }
-    let mut grown = with_children(parents, set);
-    if parents_lower(parents) {
         return grown;
     }
+    let once = parents_lower(parents);
+    let mut set = 0u64;
     while grown != set {
         set = grown;
         grown = with_children(parents, set);
+        if once {
+            return grown;
+        }
     }
     set
 }

@@ -1,7 +1,7 @@
 // Hexadecimal digits: 0 to 9 and a to f.
 ghost use mathlib.Core.Path.{_≡_};
 ghost use Prim.Native.Nat.{_%_};
-ghost use Rattle.digits.specs.Digits.{hexDigit, digitOf};
+ghost use Rattle.digits.specs.Digits.{hexDigit, digitOf, ValuesOfBytes};
 
 // The value of a character 0-9 or a-f, and 16 for any other byte.
 pub fn value(c: u8) -> u8
@@ -28,4 +28,15 @@ pub fn character(d: u8) -> u8
 {
     let low = d % 16;
     if low < 10 { 48 + low } else { 87 + low }
+}
+
+// The values of all bytes.
+pub fn values() -> [u8; 256]
+    ensures { λ r. ⌜ ValuesOfBytes r ⌝ }
+{
+    let mut table = [16u8; 256];
+    for c in 0..256usize {
+        table[c] = value((c % 256) as u8);
+    }
+    table
 }

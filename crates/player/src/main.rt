@@ -26,17 +26,15 @@ fn ended(player: Player) -> Played {
 }
 
 // Reads once, plays what came, and writes the answers. Every byte has room for the answer that it may end.
-fn turn(player: Player) -> Played {
-    let mut input = [0u8; 8192];
-    let n = io::count(libc::read(STDIN_FILENO, &mut input), &input);
+fn turn(player: Player, input: &mut [u8], out: &mut [u8]) -> Played {
+    let n = io::count(libc::read(STDIN_FILENO, input), input);
     if n == 0 {
         return ended(player);
     }
-    let mut out = [0u8; 24576];
-    let fed = player.feed(&input[..n], &mut out);
+    let fed = player.feed(&input[..n], out);
     let written = fed.written;
     let next = fed.player;
-    if 24576 < written {
+    if out.len() < written {
         return Played {
             player: next,
             goes_on: false,
@@ -53,9 +51,11 @@ fn main() {
     let mut player = Player::new();
     let mut turns = u64::MAX;
     let mut goes_on = true;
+    let mut input = [0u8; 8192];
+    let mut out = [0u8; 24576];
     while turns > 0 && goes_on {
         turns -= 1;
-        let done = turn(player);
+        let done = turn(player, &mut input, &mut out);
         goes_on = done.goes_on;
         player = done.player;
     }

@@ -17,8 +17,9 @@ use Rattle.rules.specs.ReadWrite.{readWrite}
 use Rattle.rules.proofs.Tests.{by-bool, clash}
 use Rattle.rules.proofs.Facts.{sound-facts}
 use Rattle.bench.specs.declared.Bench.{Bench}
-use Rattle.bench.specs.View.{stateOf, parentOf, viewed}
-use Rattle.bench.proofs.Bytes.{none-byte}
+use Rattle.views.specs.View.{stateOf, parentOf}
+use Rattle.bench.specs.Record.{viewed}
+use Rattle.views.proofs.Bytes.{none-byte}
 use Rattle.bench.proofs.Unique.{Fits}
 use Rattle.saved.specs.Text.{hexOf, actionFrame, instrumentFrame, actionCell, instrumentCell, cellsFrom, textOf}
 use Rattle.saved.specs.Shape.{actionAt, Taken, actionsIn, instrumentsIn, recordIn}

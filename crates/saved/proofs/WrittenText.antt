@@ -11,7 +11,7 @@ use lib.Seq.{length-sets, sets-eq}
 use Rattle.rules.specs.Sound.{sound}
 use Rattle.rules.specs.ReadWrite.{readWrite}
 use Rattle.bench.specs.declared.Bench.{Bench}
-use Rattle.bench.specs.View.{viewed}
+use Rattle.bench.specs.Record.{viewed}
 use Rattle.saved.specs.declared.Saved.{Saved}
 use Rattle.saved.specs.Text.{actionCell, instrumentCell, cellsFrom, textOf}
 use Rattle.saved.specs.Saved.{savedAs, bufferAfter}

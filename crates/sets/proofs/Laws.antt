@@ -1,7 +1,7 @@
 -- The laws of sets: which numbers are members after each operation, when two words are the same set, inclusion, the least member and the order of words. Each holds at every width w, for words below 2 ^ w. Assumes nothing.
 use mathlib.Core.Path.{_≡_, refl, sym, ap, ap₂, _∙_}
 use mathlib.Core.Bool.{Bool, true, false, cond, not, _&&_, _||_, false≢true}
-use Prim.Native.Nat.{ℕ, zero, suc, _+_, _*_, _/_, _%_, _^_, _≤_, _<_, suc-le-suc, min, max}
+use Prim.Native.Nat.{ℕ, zero, suc, _+_, _-_, _*_, _/_, _%_, _^_, _≤_, _<_, suc-le-suc, min, max}
 use native.Mathlib.Nat.{div-one, zero-div, div-eq-of-lt, div-div-eq-div-mul, pow-suc, pow-succ', mod-lt, mod-eq-of-lt, mul-mod-left, mul-div-cancel, one-mul, lt-of-lt-of-le, lt-of-le-of-lt, zero-lt-suc}
 use native.Mathlib.Omega.{arith}
 use lib.Dec.{eqb, ltb, eqb·suc-suc, eqb·suc-zero, eqb·zero-suc}
@@ -9,7 +9,7 @@ use lib.Arith.{digits-mod, lt-one}
 use lib.Pow.{pow-lt, pow-mono, pow-pos}
 use lib.Bits.{bitAnd, bitOr, bitXor, differ, and-shr, or-shr, xor-shr, and-step, or-step, xor-step, or-lt, xor-lt, and-le-l, and-le-r, or-add-and, xor-add-and}
 use lib.Count.{trailingZeros, under}
-use borrow.Author.Tests.{eqb-true, eq-eqb, ltb-true, ltb-false, lt-ltb, le-ltb}
+use borrow.Author.Tests.{eqb-true, eqb-false, eq-eqb, ltb-true, ltb-false, lt-ltb, le-ltb}
 use Rattle.sets.specs.Sets.{member, single, union, difference, within, with, without, least}
 
 -- ---- tests
@@ -318,3 +318,47 @@ union-grows s t = omega (arith, or-add-and s t, and-le-r s t)
 
 pub union-grows-more : (s t : ℕ) → (union s t ≡ s → ⊥) → s < union s t
 union-grows-more s t f = omega (arith, union-grows s t)
+
+-- ---- the word less one
+
+-- one less than a word: of its members it has all but the least
+pub less-one-member : (w s k : ℕ) → s < 2 ^ w → (s ≡ 0 → ⊥) → member s k ≡ true → member (s - 1) k ≡ not (eqb k (least w s))
+less-one-member zero s k h f m = absurd (f (lt-one h))
+less-one-member (suc w) s zero h f m =
+    rw (least-step, m) (member-digit (s - 1) 0 false (rw div-one (omega (arith, lowest-digit s ∙ ap digit m))))
+less-one-member (suc w) s (suc k) h f m =
+    rw (member-suc, least-step)
+    (by-test (member s 0)
+    (λ e.
+    let odd = lowest-digit s ∙ ap digit e in
+    let half : (s - 1) / 2 ≡ s / 2 = omega arith in
+    rw (e, half, ← member-suc, m, eqb·suc-zero))
+    (λ e.
+    let even = lowest-digit s ∙ ap digit e in
+    let half : (s - 1) / 2 ≡ s / 2 - 1 = omega arith in
+    rw (e, half, eqb·suc-suc) (less-one-member w (s / 2) k (half-fits w s h) (half-some s e f) (sym (member-suc s k) ∙ m))))
+
+pub without-empty : (w k : ℕ) → without w 0 k ≡ 0
+without-empty w k =
+    by-test (ltb k w)
+    (λ e. rw (without-inside w 0 k (ltb-true k w e)) (omega (arith, difference-add 0 (single k))))
+    (λ e. without-outside w 0 k (ltb-false k w e))
+
+-- what a word and the word less one have in common is the word without its least member; of the empty word nothing is left, whatever t is
+pub less-one-common : (w s t : ℕ) → s < 2 ^ w → ((s ≡ 0 → ⊥) → t ≡ s - 1) → bitAnd s t ≡ without w s (least w s)
+less-one-common w s t h less =
+    by-test (eqb s 0)
+    (λ e. rw (eqb-true s 0 e, without-empty w (least w 0)) (omega (arith, and-le-l 0 t)))
+    (λ e. some (eqb-false s 0 e))
+  where
+    both : (t u v : Bool) → (t ≡ true → u ≡ v) → (t && u) ≡ (t && v)
+    both true u v f = f refl
+    both false u v f = refl
+
+    some : (s ≡ 0 → ⊥) → bitAnd s t ≡ without w s (least w s)
+    some f =
+        rw (less f)
+        (same-members w (bitAnd s (s - 1)) (without w s (least w s)) (lt-of-le-of-lt (and-le-l s (s - 1)) h) (without-fits w s (least w s) h)
+        (λ k l.
+        rw (member-intersection, member-without w s (least w s) k (least-inside w s h f))
+        (both (member s k) (member (s - 1) k) (not (eqb k (least w s))) (less-one-member w s k h f))))

@@ -50,3 +50,10 @@ pub fn least(s: u64) -> usize
 {
     u64::trailing_zeros(s) as usize
 }
+
+// s without its least member.
+pub fn without_least(s: u64) -> u64
+    ensures { λ r. ⌜ r ≡ without 64 s (least 64 s) ⌝ }
+{
+    s & std::num::wrapping_sub_u64(s, 1)
+}

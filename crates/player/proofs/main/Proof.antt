@@ -1,13 +1,15 @@
--- `main` is safe and ends. The measure is the number of turns that are left; nothing has to hold from turn to turn. Assumes nothing.
+-- `main` is safe and ends. The loop's invariant: the buffers keep their lengths. The measure is the number of turns that are left. Assumes nothing.
+use mathlib.Core.Path.{_≡_}
 use borrow.Author.Needs.{needs}
+use lib.ListN.{length}
 use Rattle.player.proofs.main.Statement.{statement}
 use Rattle.player.proofs.main.Tie as tie
 
 abbrev Inv-loop : tie.InvT-loop
-Inv-loop player₀ turns₀ goes-on₀ player turns goes-on = Unit {0}
+Inv-loop player₀ turns₀ goes-on₀ input₀ out₀ player turns goes-on input out = (length input ≡ 8192) × (length out ≡ 24576)
 
 abbrev μ-loop : tie.MeasureT-loop
-μ-loop player₀ turns₀ goes-on₀ player turns goes-on = turns
+μ-loop player₀ turns₀ goes-on₀ input₀ out₀ player turns goes-on input out = turns
 
 new-requires : tie.Need-new-requires Inv-loop μ-loop
 new-requires c κs = search needs
@@ -17,6 +19,12 @@ loop-holds c = search needs
 
 sub-turns : tie.Need-sub-turns Inv-loop μ-loop
 sub-turns c = search needs
+
+slice-aggregate-turn : tie.Need-slice-aggregate-turn Inv-loop μ-loop
+slice-aggregate-turn c = search needs
+
+slice-aggregate-turn-2 : tie.Need-slice-aggregate-turn-2 Inv-loop μ-loop
+slice-aggregate-turn-2 c = search needs
 
 turn-requires : tie.Need-turn-requires Inv-loop μ-loop
 turn-requires c κs = search needs
@@ -42,6 +50,8 @@ main-spec =
     new-requires
     loop-holds
     sub-turns
+    slice-aggregate-turn
+    slice-aggregate-turn-2
     turn-requires
     loop-less
     loop-again

@@ -1,19 +1,12 @@
 -- `turn` is safe: what is written lies within the buffer. Assumes nothing.
 use mathlib.Core.Path.{sym}
-use native.Mathlib.Omega.{arith}
 use borrow.Author.Needs.{needs}
 use lib.Seq.{length-take-le}
 use Rattle.player.proofs.turn.Statement.{statement}
 use Rattle.player.proofs.turn.Tie as tie
 
-slice-aggregate-read : tie.Need-slice-aggregate-read
-slice-aggregate-read c = search needs
-
 read-requires : tie.Need-read-requires
 read-requires c κs = search needs
-
-slice-aggregate-count : tie.Need-slice-aggregate-count
-slice-aggregate-count c = search needs
 
 count-requires : tie.Need-count-requires
 count-requires c κs = search needs
@@ -21,34 +14,44 @@ count-requires c κs = search needs
 ended-requires : tie.Need-ended-requires
 ended-requires c κs = search needs
 
+same-length : tie.Need-same-length
+same-length c = search needs
+
 returns : tie.Need-returns
 returns c = search needs
 
-array-share-prefix-input : tie.Need-array-share-prefix-input
-array-share-prefix-input c = search needs
+slice-reshare-prefix-feed : tie.Need-slice-reshare-prefix-feed
+slice-reshare-prefix-feed c = search needs
 
 slice-aggregate-feed : tie.Need-slice-aggregate-feed
 slice-aggregate-feed c = search needs
 
-slice-aggregate-feed-2 : tie.Need-slice-aggregate-feed-2
-slice-aggregate-feed-2 c = search needs
-
 feed-requires : tie.Need-feed-requires
 feed-requires c κs = search needs
+
+same-length-2 : tie.Need-same-length-2
+same-length-2 c = search needs
+
+same-length-3 : tie.Need-same-length-3
+same-length-3 c = search needs
 
 returns-2 : tie.Need-returns-2
 returns-2 c = search needs
 
-array-share-prefix-out : tie.Need-array-share-prefix-out
-array-share-prefix-out c = search needs
+slice-reshare-prefix-write-all : tie.Need-slice-reshare-prefix-write-all
+slice-reshare-prefix-write-all c = search needs
 
 slice-aggregate-write-all : tie.Need-slice-aggregate-write-all
-slice-aggregate-write-all c =
-    let kept = c .before .before .before .before .feed .kept .1 .1 .0 in
-    sym (length-take-le _ _ (omega arith))
+slice-aggregate-write-all c = sym (length-take-le _ _ (c .before .if2 .left))
 
 write-all-requires : tie.Need-write-all-requires
 write-all-requires c κs = search needs
+
+same-length-4 : tie.Need-same-length-4
+same-length-4 c = search needs
+
+same-length-5 : tie.Need-same-length-5
+same-length-5 c = search needs
 
 returns-3 : tie.Need-returns-3
 returns-3 c = search needs
@@ -57,18 +60,20 @@ pub turn-spec : {M : Type 1} → statement M
 turn-spec =
     tie.close
     (tie.spec
-    slice-aggregate-read
     read-requires
-    slice-aggregate-count
     count-requires
     ended-requires
+    same-length
     returns
-    array-share-prefix-input
+    slice-reshare-prefix-feed
     slice-aggregate-feed
-    slice-aggregate-feed-2
     feed-requires
+    same-length-2
+    same-length-3
     returns-2
-    array-share-prefix-out
+    slice-reshare-prefix-write-all
     slice-aggregate-write-all
     write-all-requires
+    same-length-4
+    same-length-5
     returns-3)

@@ -9,7 +9,7 @@ use borrow.Author.Needs.{needs}
 use lib.ListN.{length}
 use Rattle.rules.specs.Sound.{sound}
 use Rattle.rules.specs.ReadWrite.{readWrite}
-use Rattle.bench.specs.View.{viewed}
+use Rattle.bench.specs.Record.{viewed}
 use Rattle.saved.specs.Text.{textOf}
 use Rattle.saved.proofs.WrittenText.{text-length, refused-unsound, refused-room, actions-room, instruments-room, saved-whole}
 use Rattle.saved.proofs.save.Statement.{statement}

@@ -6,11 +6,11 @@ use native.Mathlib.Omega.{arith}
 use borrow.Author.Needs.{needs}
 use lib.ListN.{length}
 use Rattle.rules.specs.Requests.{abort}
-use Rattle.bench.specs.View.{viewed}
-use Rattle.bench.proofs.Stores.{family-left}
-use Rattle.bench.proofs.Steps.{granted-by, step-refused}
+use Rattle.bench.specs.Record.{viewed}
+use Rattle.views.proofs.Stores.{family-left}
+use Rattle.views.proofs.Steps.{granted-by, step-refused}
 use Rattle.bench.proofs.Accepts.{abort-accepted}
-use Rattle.bench.proofs.ViewLaws.{parents-sound}
+use Rattle.views.proofs.ViewLaws.{parents-sound}
 use Rattle.bench.proofs.Bench.abort.Statement.{statement}
 use Rattle.bench.proofs.Bench.abort.Tie as tie
 

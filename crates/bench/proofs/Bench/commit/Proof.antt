@@ -5,8 +5,8 @@ use native.Mathlib.Omega.{arith}
 use borrow.Author.Needs.{needs}
 use lib.ListN.{length}
 use Rattle.rules.specs.Requests.{commit}
-use Rattle.bench.specs.View.{viewed}
-use Rattle.bench.proofs.Steps.{granted-by, step-refused}
+use Rattle.bench.specs.Record.{viewed}
+use Rattle.views.proofs.Steps.{granted-by, step-refused}
 use Rattle.bench.proofs.Accepts.{commit-top-accepted, commit-sub-accepted}
 use Rattle.bench.proofs.Bench.commit.Statement.{statement}
 use Rattle.bench.proofs.Bench.commit.Tie as tie

@@ -3,8 +3,8 @@
 use mathlib.Core.Path.{_≡_}
 use borrow.Author.Needs.{needs}
 use lib.ListN.{length}
-use Rattle.bench.proofs.Stores.{family-left}
-use Rattle.bench.proofs.ViewLaws.{parents-sound}
+use Rattle.views.proofs.Stores.{family-left}
+use Rattle.views.proofs.ViewLaws.{parents-sound}
 use Rattle.bench.proofs.Bench.without_family.Statement.{statement}
 use Rattle.bench.proofs.Bench.without_family.Tie as tie
 

@@ -2,7 +2,8 @@
 use mathlib.Core.Path.{_≡_}
 use borrow.Author.Needs.{needs}
 use lib.ListN.{length}
-use Rattle.bench.proofs.FeedLaws.{fed-long, taken-long, taken-fits, fed-as}
+use Rattle.lines.proofs.FeedLaws.{fed-long, taken-long, taken-fits}
+use Rattle.bench.proofs.PlayerFeeding.{fed-as}
 use Rattle.bench.proofs.Player.feed.Statement.{statement}
 use Rattle.bench.proofs.Player.feed.Tie as tie
 

@@ -1,7 +1,7 @@
 -- `Player::new` meets its contract: its bench is read as the empty one, and no line has begun. Assumes nothing.
 use mathlib.Core.Path.{ap}
 use borrow.Author.Needs.{needs}
-use Rattle.bench.specs.Feeding.{between}
+use Rattle.lines.specs.Feeding.{between}
 use Rattle.bench.proofs.Player.new.Statement.{statement}
 use Rattle.bench.proofs.Player.new.Tie as tie
 

@@ -4,7 +4,7 @@ use mathlib.Core.Bool.{true, false}
 use borrow.Author.Needs.{needs}
 use borrow.Author.Tests.{le-leb, lt-leb}
 use Rattle.rules.specs.Answers.{rowBy}
-use Rattle.bench.proofs.Rows.{ask-busy, may-commit, ask-last}
+use Rattle.views.proofs.Rows.{ask-busy, may-commit, ask-last}
 use Rattle.bench.proofs.answers.ask_row.Statement.{statement}
 use Rattle.bench.proofs.answers.ask_row.Tie as tie
 

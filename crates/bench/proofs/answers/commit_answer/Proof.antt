@@ -4,8 +4,8 @@ use borrow.Author.Needs.{needs}
 use Rattle.rules.specs.Owners.{hasRunningChild}
 use Rattle.rules.specs.Requests.{commit}
 use Rattle.rules.specs.Answers.{rowBy}
-use Rattle.bench.specs.View.{view}
-use Rattle.bench.proofs.Steps.{answer-unsound, answer-sound}
+use Rattle.views.specs.View.{view}
+use Rattle.views.proofs.Steps.{answer-unsound, answer-sound}
 use Rattle.bench.proofs.answers.commit_answer.Statement.{statement}
 use Rattle.bench.proofs.answers.commit_answer.Tie as tie
 

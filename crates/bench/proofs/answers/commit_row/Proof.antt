@@ -4,8 +4,8 @@ use borrow.Author.Needs.{needs}
 use borrow.Author.Tests.{le-leb, lt-leb, ne-eqb}
 use lib.ListN.{getD}
 use Rattle.rules.specs.Answers.{rowBy}
-use Rattle.bench.proofs.ViewLaws.{running-byte}
-use Rattle.bench.proofs.Rows.{commit-last}
+use Rattle.views.proofs.ViewLaws.{running-byte}
+use Rattle.views.proofs.Rows.{commit-last}
 use Rattle.bench.proofs.answers.commit_row.Statement.{statement}
 use Rattle.bench.proofs.answers.commit_row.Tie as tie
 

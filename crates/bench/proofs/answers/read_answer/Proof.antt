@@ -1,9 +1,9 @@
 -- `read_answer` meets its contract: 7 where the soundness test fails, and else the row of the owners in the write set. Assumes nothing.
 use borrow.Author.Needs.{needs}
 use Rattle.rules.specs.ReadWrite.{read}
-use Rattle.bench.specs.View.{view}
-use Rattle.bench.proofs.Steps.{answer-unsound}
-use Rattle.bench.proofs.Rows.{read-requires, read-answered}
+use Rattle.views.specs.View.{view}
+use Rattle.views.proofs.Steps.{answer-unsound}
+use Rattle.views.proofs.Rows.{read-requires, read-answered}
 use Rattle.bench.proofs.answers.read_answer.Statement.{statement}
 use Rattle.bench.proofs.answers.read_answer.Tie as tie
 

@@ -1,9 +1,9 @@
 -- `write_answer` meets its contract: 7 where the soundness test fails, and else the row of the owners in both sets. Assumes nothing.
 use borrow.Author.Needs.{needs}
 use Rattle.rules.specs.ReadWrite.{write}
-use Rattle.bench.specs.View.{view}
-use Rattle.bench.proofs.Steps.{answer-unsound}
-use Rattle.bench.proofs.Rows.{write-requires, write-answered}
+use Rattle.views.specs.View.{view}
+use Rattle.views.proofs.Steps.{answer-unsound}
+use Rattle.views.proofs.Rows.{write-requires, write-answered}
 use Rattle.bench.proofs.answers.write_answer.Statement.{statement}
 use Rattle.bench.proofs.answers.write_answer.Tie as tie
 

@@ -1,9 +1,9 @@
 -- `clear_bytes` meets its contract. The loop's invariant: when the numbers that are left go from the bytes, they are as when all go from the bytes at
 -- the start. The measure is the set that is left. Assumes nothing.
 use borrow.Author.Needs.{needs}
-use Rattle.sets.specs.Sets.{without}
-use Rattle.bench.proofs.Taken.{Taken, least-taken}
-use Rattle.bench.proofs.Cleared.{Going, going-start, going-turn, going-end}
+use Rattle.sets.specs.Sets.{without, least}
+use Rattle.views.proofs.Taken.{Taken, least-taken}
+use Rattle.views.proofs.Cleared.{Going, going-start, going-turn, going-end}
 use Rattle.bench.proofs.clear.clear_bytes.Statement.{statement}
 use Rattle.bench.proofs.clear.clear_bytes.Tie as tie
 
@@ -20,22 +20,22 @@ least-requires : tie.Need-least-requires Inv-loop μ-loop
 least-requires c κs = search needs
 
 -- the number that a turn takes
-take : (c : tie.After-least Inv-loop μ-loop) → Taken (c .before .before .loop .rest) (c .least .result) (without 64 (c .before .before .loop .rest) (c .least .result))
+take : (c : tie.After-least Inv-loop μ-loop) → Taken (c .before .before .loop .rest) (c .least .result) (without 64 (c .before .before .loop .rest) (least 64 (c .before .before .loop .rest)))
 take c = rw (c .least .ensures) (least-taken (c .before .before .loop .rest) (c .before .before .loop .inv .fits) (c .before .loop-test .taken))
 
 element-write-bytes : tie.Need-element-write-bytes Inv-loop μ-loop
 element-write-bytes c = take c .known
 
-without-requires : tie.Need-without-requires Inv-loop μ-loop
-without-requires c κs = search needs
+without-least-requires : tie.Need-without-least-requires Inv-loop μ-loop
+without-least-requires c κs = search needs
 
 loop-less : tie.Need-loop-less Inv-loop μ-loop
-loop-less c = rw (c .without .ensures) (take (c .before) .falls)
+loop-less c = rw (c .without-least .ensures) (take (c .before) .falls)
 
 loop-again : tie.Need-loop-again Inv-loop μ-loop
 loop-again c =
     let at = c .before .before .before in
-    rw (c .without .ensures)
+    rw (c .without-least .ensures)
     (going-turn (at .before .args .bytes .now) (at .before .args .gone) (at .loop .bytes) (at .loop .rest) (c .before .least .result) _ (at .loop .inv)
     (take (c .before)))
 
@@ -53,7 +53,7 @@ clear-bytes-spec =
     loop-holds
     least-requires
     element-write-bytes
-    without-requires
+    without-least-requires
     loop-less
     loop-again
     returns)

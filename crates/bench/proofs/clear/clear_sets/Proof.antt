@@ -4,7 +4,7 @@ use Prim.Native.Nat.{_≤_, _-_}
 use mathlib.Core.Path.{_≡_}
 use native.Mathlib.Omega.{arith}
 use borrow.Author.Needs.{needs}
-use Rattle.bench.proofs.Cleared.{ClearedTo, cleared-none, cleared-more, cleared-all}
+use Rattle.views.proofs.Cleared.{ClearedTo, cleared-none, cleared-more, cleared-all}
 use Rattle.bench.proofs.clear.clear_sets.Statement.{statement}
 use Rattle.bench.proofs.clear.clear_sets.Tie as tie
 

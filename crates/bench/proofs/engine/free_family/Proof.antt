@@ -1,8 +1,8 @@
 -- `free_family` meets its contract: the set that `family` gathers is that of a's family, and its numbers have left all four arrays. Assumes nothing.
 use mathlib.Core.Path.{_∙_}
 use borrow.Author.Needs.{needs}
-use Rattle.bench.proofs.Stores.{family-left}
-use Rattle.bench.proofs.ViewLaws.{parents-sound}
+use Rattle.views.proofs.Stores.{family-left}
+use Rattle.views.proofs.ViewLaws.{parents-sound}
 use Rattle.bench.proofs.engine.free_family.Statement.{statement}
 use Rattle.bench.proofs.engine.free_family.Tie as tie
 

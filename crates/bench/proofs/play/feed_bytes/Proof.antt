@@ -4,65 +4,56 @@ use Prim.Native.Nat.{_-_}
 use native.Mathlib.Omega.{arith}
 use borrow.Author.Needs.{needs}
 use lib.ListN.{length}
-use Rattle.bench.specs.Arrays.{KnownArrays}
-use Rattle.bench.specs.Feeding.{feedingOf}
-use Rattle.bench.proofs.FeedLaws.{Left, left-none, left-more, left-all}
+use Rattle.lines.specs.Arrays.{KnownArrays}
+use Rattle.lines.specs.Feeding.{feedingOf}
+use Rattle.lines.proofs.FeedLaws.{Left, left-none, left-more, left-all}
 use Rattle.bench.proofs.play.feed_bytes.Statement.{statement}
 use Rattle.bench.proofs.play.feed_bytes.Tie as tie
 
 abbrev Inv-loop : tie.InvT-loop
-Inv-loop parents₀ states₀ reads₀ writes₀ is-sound count value input out₀ place₀ i₀ i-end parents states reads writes out place i =
+Inv-loop parents₀ states₀ reads₀ writes₀ is-sound count value input out₀ values₀ place₀ parents states reads writes out place =
     Left (feedingOf parents₀ states₀ reads₀ writes₀ count value) input out₀
-    (feedingOf parents states reads writes (place .count) (place .value)) out (place .written) i
+    (feedingOf parents states reads writes (place .count) (place .value)) out (place .written) (place .at)
     × KnownArrays is-sound parents states reads writes
 
 abbrev μ-loop : tie.MeasureT-loop
-μ-loop parents₀ states₀ reads₀ writes₀ is-sound count value input out₀ place₀ i₀ i-end parents states reads writes out place i =
-    length input - i
+μ-loop parents₀ states₀ reads₀ writes₀ is-sound count value input out₀ values₀ place₀ parents states reads writes out place =
+    length input - place .at
 
 loop-holds : tie.Need-loop-holds Inv-loop μ-loop
-loop-holds c = let s = c .before .before in (left-none (s .pre .1), s .pre .0)
+loop-holds c = let s = c .before .before .before in (left-none (s .pre .1), s .pre .0)
 
-shared-slice-read-feed-byte : tie.Need-shared-slice-read-feed-byte Inv-loop μ-loop
-shared-slice-read-feed-byte c = search needs
+values-requires : tie.Need-values-requires Inv-loop μ-loop
+values-requires c κs = search needs
 
-feed-byte-requires : tie.Need-feed-byte-requires Inv-loop μ-loop
-feed-byte-requires c κs =
+feed-next-requires : tie.Need-feed-next-requires Inv-loop μ-loop
+feed-next-requires c κs =
     let t = c .before .before .before .before .before .before in
-    let l = t .before .loop in
-    let room = l .inv .0 .room in
-    let within = t .loop-test .taken in
-    (l .inv .1, omega arith)
-
-add-i : tie.Need-add-i Inv-loop μ-loop
-add-i c = search needs
+    let l = t .before .before in
+    let room = l .loop .inv .0 .room in
+    let inside = t .if1 .taken in
+    (l .loop .inv .1, l .before .values .ensures, inside, omega arith)
 
 loop-less : tie.Need-loop-less Inv-loop μ-loop
-loop-less c = search needs
+loop-less c =
+    let turn = c .before .before .feed-next .ensures .0 in
+    let moved = turn .moved in
+    let within = turn .within in
+    omega arith
 
 loop-again : tie.Need-loop-again Inv-loop μ-loop
 loop-again c =
-    let turn = c .before .before .feed-byte .ensures in
+    let turn = c .before .before .feed-next .ensures in
     let t = c .before .before .before .before .before .before .before .before .before in
-    (left-more (t .loop-test .taken) (t .before .loop .inv .0) (turn .0), turn .1)
+    (left-more (t .before .before .loop .inv .0) (turn .0), turn .1)
 
 same-length : tie.Need-same-length Inv-loop μ-loop
-same-length c = c .before .loop .inv .0 .long
+same-length c = c .before .before .loop .inv .0 .long
 
 returns : tie.Need-returns Inv-loop μ-loop
-returns c = left-all (c .loop-test .left) (c .before .loop .inv .0)
+returns c = left-all (c .if1 .left) (c .before .before .loop .inv .0)
 
 pub feed-bytes-spec : {M : Type 1} → statement M
 feed-bytes-spec =
     tie.close
-    (tie.spec
-    Inv-loop
-    μ-loop
-    loop-holds
-    shared-slice-read-feed-byte
-    feed-byte-requires
-    add-i
-    loop-less
-    loop-again
-    same-length
-    returns)
+    (tie.spec Inv-loop μ-loop values-requires loop-holds feed-next-requires loop-less loop-again same-length returns)

@@ -4,7 +4,7 @@ use native.Mathlib.Omega.{arith}
 use borrow.Author.Needs.{needs}
 use lib.ListN.{length, set}
 use lib.Seq.{lt-length-set}
-use Rattle.bench.proofs.FeedLaws.{answer-put}
+use Rattle.lines.proofs.FeedLaws.{answer-put}
 use Rattle.bench.proofs.play.put_answer.Statement.{statement}
 use Rattle.bench.proofs.play.put_answer.Tie as tie
 

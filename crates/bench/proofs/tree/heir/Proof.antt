@@ -5,8 +5,8 @@ use native.Mathlib.Omega.{arith}
 use borrow.Author.Needs.{needs}
 use lib.ListN.{getD}
 use Rattle.rules.proofs.Walks.{stepsUp}
-use Rattle.bench.specs.Parts.{upOf}
-use Rattle.bench.proofs.Heirs.{SameHeir, StepUp, heir-turn, heir-end}
+use Rattle.views.specs.Parts.{upOf}
+use Rattle.views.proofs.Heirs.{SameHeir, StepUp, heir-turn, heir-end}
 use Rattle.bench.proofs.tree.heir.Statement.{statement}
 use Rattle.bench.proofs.tree.heir.Tie as tie
 

@@ -3,9 +3,9 @@
 use mathlib.Core.Path.{sym, _∙_}
 use borrow.Author.Needs.{needs}
 use borrow.Author.Tests.{not-true, not-false}
-use Rattle.sets.specs.Sets.{without}
-use Rattle.bench.proofs.Taken.{Taken, least-taken}
-use Rattle.bench.proofs.Heirs.{Remaining, owners-none, remaining-start, remaining-turn, remaining-refused, remaining-end}
+use Rattle.sets.specs.Sets.{without, least}
+use Rattle.views.proofs.Taken.{Taken, least-taken}
+use Rattle.views.proofs.Heirs.{Remaining, owners-none, remaining-start, remaining-turn, remaining-refused, remaining-end}
 use Rattle.bench.proofs.tree.heirs_in_line.Statement.{statement}
 use Rattle.bench.proofs.tree.heirs_in_line.Tie as tie
 
@@ -39,7 +39,7 @@ least-requires : tie.Need-least-requires Inv-loop μ-loop
 least-requires c κs = search needs
 
 -- the number that a turn takes
-take : (c : tie.After-least Inv-loop μ-loop) → Taken (c .before .before .loop .rest) (c .least .result) (without 64 (c .before .before .loop .rest) (c .least .result))
+take : (c : tie.After-least Inv-loop μ-loop) → Taken (c .before .before .loop .rest) (c .least .result) (without 64 (c .before .before .loop .rest) (least 64 (c .before .before .loop .rest)))
 take c = rw (c .least .ensures) (least-taken (c .before .before .loop .rest) (c .before .before .loop .inv .fits) (c .before .loop-test .taken))
 
 heir-requires : tie.Need-heir-requires Inv-loop μ-loop
@@ -68,18 +68,18 @@ returns-2 c =
     (c .before .before .heir .ensures)
     (sym (c .before .member .ensures) ∙ not-true (c .before .member .result) (c .if2 .taken))
 
-without-requires : tie.Need-without-requires Inv-loop μ-loop
-without-requires c κs = search needs
+without-least-requires : tie.Need-without-least-requires Inv-loop μ-loop
+without-least-requires c κs = search needs
 
 loop-less : tie.Need-loop-less Inv-loop μ-loop
-loop-less c = rw (c .without .ensures) (take (c .before .before .before .before) .falls)
+loop-less c = rw (c .without-least .ensures) (take (c .before .before .before .before) .falls)
 
 loop-again : tie.Need-loop-again Inv-loop μ-loop
 loop-again c =
     let turn = c .before .before .before .before in
     let at = turn .before .before in
     let start = at .before .before .before .before in
-    rw (c .without .ensures)
+    rw (c .without-least .ensures)
     (remaining-turn (start .args .parents .now) (start .args .states .now) (start .pre .0) (start .args .a) (at .before .before .line-of .result)
     (at .before .before .line-of .ensures)
     (start .args .owners)
@@ -112,7 +112,7 @@ heirs-in-line-spec =
     heir-requires
     member-requires
     returns-2
-    without-requires
+    without-least-requires
     loop-less
     loop-again
     returns-3)

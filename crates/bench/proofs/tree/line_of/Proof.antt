@@ -1,7 +1,7 @@
 -- `line_of` meets its contract. The loop's invariant: the set and the line from byte `up` on are together the line of a. The measure is how many
 -- numbers that line has. Assumes nothing.
 use borrow.Author.Needs.{needs}
-use Rattle.bench.proofs.Lines.{stepsFrom, Lined, line-start, line-turn, line-falls, line-end}
+use Rattle.views.proofs.Lines.{stepsFrom, Lined, line-start, line-turn, line-falls, line-end}
 use Rattle.bench.proofs.tree.line_of.Statement.{statement}
 use Rattle.bench.proofs.tree.line_of.Tie as tie
 

@@ -1,59 +1,40 @@
--- `with_children` meets its contract. The loop's invariant: the set has grown by the children among the numbers passed. The measure is what is left
--- of the numbers. Assumes nothing.
-use Prim.Native.Nat.{_≤_, _-_}
-use mathlib.Core.Path.{_≡_}
-use native.Mathlib.Omega.{arith}
+-- `with_children` meets its contract: one half of the numbers after the other, or the lower half alone where no upper number has a parent.
+-- Assumes nothing.
+use mathlib.Core.Path.{sym, _∙_}
 use borrow.Author.Needs.{needs}
-use Rattle.bench.proofs.Families.{GrownTo, grown-none, grown-more, grown-all}
+use Rattle.views.specs.Parts.{GrownTo}
+use Rattle.views.proofs.Bytes.{no-upper-child}
+use Rattle.views.proofs.Families.{grown-none, grown-childless}
 use Rattle.bench.proofs.tree.with_children.Statement.{statement}
 use Rattle.bench.proofs.tree.with_children.Tie as tie
 
-abbrev Inv-loop : tie.InvT-loop
-Inv-loop parents set grown₀ k₀ grown k = (k ≤ 64) × GrownTo parents set grown k
+adopting-half-requires : tie.Need-adopting-half-requires
+adopting-half-requires c κs = search needs
 
-abbrev μ-loop : tie.MeasureT-loop
-μ-loop parents set grown₀ k₀ grown k = 64 - k
+-- the lower half
+lower : (c : tie.After-adopting-half) → GrownTo (c .before .args .parents .now) (c .before .args .set) (c .adopting-half .result) 32
+lower c = c .adopting-half .ensures (c .before .args .set) (grown-none (c .before .args .parents .now) (c .before .args .set))
 
-loop-holds : tie.Need-loop-holds Inv-loop μ-loop
-loop-holds c = (search needs, grown-none (c .args .parents .now) (c .args .set))
+upper-child-requires : tie.Need-upper-child-requires
+upper-child-requires c κs = search needs
 
-element-copy-out-adopting : tie.Need-element-copy-out-adopting Inv-loop μ-loop
-element-copy-out-adopting c = search needs
+adopting-half-requires-2 : tie.Need-adopting-half-requires-2
+adopting-half-requires-2 c κs = search needs
 
-adopting-requires : tie.Need-adopting-requires Inv-loop μ-loop
-adopting-requires c κs = search needs
-
-add-k : tie.Need-add-k Inv-loop μ-loop
-add-k c = search needs
-
-loop-less : tie.Need-loop-less Inv-loop μ-loop
-loop-less c = search needs
-
-loop-again : tie.Need-loop-again Inv-loop μ-loop
-loop-again c =
-    let at = c .before .before .before in (
-      search needs,
-      rw (c .adopting .ensures)
-          (grown-more (at .before .args .parents .now) (at .before .pre) (at .before .args .set) (at .loop .grown) (at .loop .k) (c .before .before .loop-test .taken)
-          (at .loop .inv .1)),
-    )
-
-returns : tie.Need-returns Inv-loop μ-loop
+returns : tie.Need-returns
 returns c =
-    let at = c .before in
-    let e : at .loop .k ≡ 64 = omega arith in
-    grown-all (at .before .args .parents .now) (at .before .args .set) (at .loop .grown) (rw e at (at .loop .inv .1))
+    let half = c .before .before .before in
+    c .adopting-half2 .ensures (half .before .args .set) (lower half)
+
+returns-2 : tie.Need-returns-2
+returns-2 c =
+    let half = c .before .before in
+    let start = half .before in
+    grown-childless (start .args .parents .now) (start .args .set) (half .adopting-half .result) 32
+    (no-upper-child (start .args .parents .now) (sym (c .before .upper-child .ensures) ∙ c .if1 .left))
+    (lower half)
 
 pub with-children-spec : {M : Type 1} → statement M
 with-children-spec =
     tie.close
-    (tie.spec
-    Inv-loop
-    μ-loop
-    loop-holds
-    element-copy-out-adopting
-    adopting-requires
-    add-k
-    loop-less
-    loop-again
-    returns)
+    (tie.spec adopting-half-requires upper-child-requires adopting-half-requires-2 returns returns-2)

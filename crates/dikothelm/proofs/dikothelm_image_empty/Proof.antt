@@ -1,0 +1,54 @@
+-- `dikothelm_image_empty` meets its contract: an image is stored into, other slices are left. Assumes nothing.
+use mathlib.Core.Path.{refl}
+use borrow.Author.Needs.{needs}
+use Rattle.bench.proofs.Images.{was-image, was-none}
+use Rattle.saved.specs.Saved.{emptyRecord}
+use Rattle.dikothelm.proofs.CallLaws.{none-replaced, image-replaced}
+use Rattle.dikothelm.proofs.dikothelm_image_empty.Statement.{statement}
+use Rattle.dikothelm.proofs.dikothelm_image_empty.Tie as tie
+
+is-image-requires : tie.Need-is-image-requires
+is-image-requires c κs = search needs
+
+same-length : tie.Need-same-length
+same-length c = search needs
+
+same-length-2 : tie.Need-same-length-2
+same-length-2 c = search needs
+
+returns : tie.Need-returns
+returns c =
+    let f = c .before in
+    let a = f .before .before .before .before .before .args in
+    none-replaced (a .actions .now) (a .owners .now) (was-none (f .is-image .result) (f .is-image .ensures) (c .if1 .taken)) 0 emptyRecord
+
+store-requires : tie.Need-store-requires
+store-requires c κs = search needs
+
+same-length-3 : tie.Need-same-length-3
+same-length-3 c = search needs
+
+same-length-4 : tie.Need-same-length-4
+same-length-4 c = search needs
+
+returns-2 : tie.Need-returns-2
+returns-2 c =
+    let s = c .before .before .before .before in
+    let e = s .before .before .before in
+    let f = e .before in
+    let a = f .before .before .before .before .before .args in
+    image-replaced (a .actions .now) (a .owners .now) (was-image (f .is-image .result) (f .is-image .ensures) (e .if1 .left))
+    0 0 emptyRecord emptyRecord refl refl (s .store .ensures)
+
+pub dikothelm-image-empty-spec : {M : Type 1} → statement M
+dikothelm-image-empty-spec =
+    tie.close
+    (tie.spec
+    is-image-requires
+    same-length
+    same-length-2
+    returns
+    store-requires
+    same-length-3
+    same-length-4
+    returns-2)

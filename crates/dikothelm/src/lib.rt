@@ -1,0 +1,152 @@
+// The bench for C callers. The caller keeps the bench's image and lends it to each call: a pointer and a count to 128 bytes, the parents of the 64 numbers
+// and then their states, and to 256 words, the read sets of the 128 instruments and then the write sets. Nothing is kept between calls.
+mod play;
+
+use bench::Bench;
+use bench::answers::ACCEPTED;
+use bench::answers::UNSOUND;
+use bench::image;
+ghost use mathlib.Core.Path.{_≡_};
+ghost use mathlib.Core.Option.{some};
+ghost use Rattle.rules.specs.Requests.{openTop, openSub, commit, abort};
+ghost use Rattle.rules.specs.ReadWrite.{read, write};
+ghost use Rattle.bench.specs.Image.{Requested};
+ghost use Rattle.saved.specs.Saved.{emptyRecord, loadOf};
+ghost use Rattle.dikothelm.specs.Calls.{Replaced, soundAnswer, SavedAs};
+
+// The codes of the requests, as trace lines have them.
+const OPEN_TOP: u8 = 1;
+
+const OPEN_SUB: u8 = 2;
+
+const READ: u8 = 3;
+
+const WRITE: u8 = 4;
+
+const COMMIT: u8 = 5;
+
+const ABORT: u8 = 6;
+
+// Makes the image that of an empty bench.
+#[no_mangle]
+pub extern "C" fn dikothelm_image_empty(actions: &mut [u8], owners: &mut [u64]) -> u8
+    ensures { λ r. ⌜ Replaced 0 emptyRecord (now (actions .entry)) (now (owners .entry)) r (now (actions .exit)) (now (owners .exit)) ⌝ }
+{
+    if !image::is_image(actions, owners) {
+        return UNSOUND;
+    }
+    let bench = Bench {
+        parents: [0u8; 64],
+        states: [0u8; 64],
+        reads: [0u64; 128],
+        writes: [0u64; 128],
+    };
+    image::store(bench, actions, owners);
+    ACCEPTED
+}
+
+// Whether the image is that of a sound bench: 0, else 7.
+#[no_mangle]
+pub extern "C" fn dikothelm_image_sound(actions: &[u8], owners: &[u64]) -> u8
+    ensures { λ r. ⌜ r ≡ soundAnswer (now (actions .entry)) (now (owners .entry)) ⌝ }
+{
+    if !image::is_image(actions, owners) {
+        return UNSOUND;
+    }
+    let bench = image::bench_of(actions, owners);
+    if bench.is_sound() {
+        return ACCEPTED;
+    }
+    UNSOUND
+}
+
+// Makes n a running top action.
+#[no_mangle]
+pub extern "C" fn dikothelm_image_open_top(actions: &mut [u8], owners: &mut [u64], n: u32) -> u8
+    ensures { λ r. ⌜ Requested (some (openTop n)) (now (actions .entry)) (now (owners .entry)) r (now (actions .exit)) (now (owners .exit)) ⌝ }
+{
+    image::request(actions, owners, OPEN_TOP, n, 0)
+}
+
+// Makes n a running action with parent p.
+#[no_mangle]
+pub extern "C" fn dikothelm_image_open_sub(
+    actions: &mut [u8],
+    owners: &mut [u64],
+    n: u32,
+    p: u32,
+) -> u8
+    ensures { λ r. ⌜ Requested (some (openSub n p)) (now (actions .entry)) (now (owners .entry)) r (now (actions .exit)) (now (owners .exit)) ⌝ }
+{
+    image::request(actions, owners, OPEN_SUB, n, p)
+}
+
+// Adds a to the read set of instrument i.
+#[no_mangle]
+pub extern "C" fn dikothelm_image_read(actions: &mut [u8], owners: &mut [u64], a: u32, i: u32) -> u8
+    ensures { λ r. ⌜ Requested (some (read a i)) (now (actions .entry)) (now (owners .entry)) r (now (actions .exit)) (now (owners .exit)) ⌝ }
+{
+    image::request(actions, owners, READ, a, i)
+}
+
+// Adds a to the write set of instrument i.
+#[no_mangle]
+pub extern "C" fn dikothelm_image_write(
+    actions: &mut [u8],
+    owners: &mut [u64],
+    a: u32,
+    i: u32,
+) -> u8
+    ensures { λ r. ⌜ Requested (some (write a i)) (now (actions .entry)) (now (owners .entry)) r (now (actions .exit)) (now (owners .exit)) ⌝ }
+{
+    image::request(actions, owners, WRITE, a, i)
+}
+
+// A sub becomes committed and no owner set changes; a top and all its descendants become free and leave all sets.
+#[no_mangle]
+pub extern "C" fn dikothelm_image_commit(actions: &mut [u8], owners: &mut [u64], a: u32) -> u8
+    ensures { λ r. ⌜ Requested (some (commit a)) (now (actions .entry)) (now (owners .entry)) r (now (actions .exit)) (now (owners .exit)) ⌝ }
+{
+    image::request(actions, owners, COMMIT, a, 0)
+}
+
+// a and all its descendants, running or committed, become free and leave all sets.
+#[no_mangle]
+pub extern "C" fn dikothelm_image_abort(actions: &mut [u8], owners: &mut [u64], a: u32) -> u8
+    ensures { λ r. ⌜ Requested (some (abort a)) (now (actions .entry)) (now (owners .entry)) r (now (actions .exit)) (now (owners .exit)) ⌝ }
+{
+    image::request(actions, owners, ABORT, a, 0)
+}
+
+// Writes the bench's text at the buffer's start; `count` says how many bytes. Refused, it writes nothing.
+#[no_mangle]
+pub extern "C" fn dikothelm_image_save(
+    actions: &[u8],
+    owners: &[u64],
+    out: &mut [u8],
+    count: &mut usize,
+) -> u8
+    ensures { λ r. ⌜ SavedAs (now (actions .entry)) (now (owners .entry)) (now (out .entry)) r (now (out .exit)) (now (count .exit)) ⌝ }
+{
+    if !image::is_image(actions, owners) {
+        *count = 0;
+        return UNSOUND;
+    }
+    let saved = saved::save(image::bench_of(actions, owners), out);
+    *count = saved.count;
+    saved.answer
+}
+
+// Makes the image that of the bench that a text says, an empty one where the text is refused.
+#[no_mangle]
+pub extern "C" fn dikothelm_image_load(actions: &mut [u8], owners: &mut [u64], text: &[u8]) -> u8
+    ensures { λ r. ⌜ Replaced (loadOf (now (text .entry)) .answer) (loadOf (now (text .entry)) .bench) (now (actions .entry)) (now (owners .entry)) r (now (actions .exit)) (now (owners .exit)) ⌝ }
+{
+    if !image::is_image(actions, owners) {
+        return UNSOUND;
+    }
+    let loaded = saved::load(text);
+    let bench = loaded.bench;
+    image::store(bench, actions, owners);
+    loaded.answer
+}

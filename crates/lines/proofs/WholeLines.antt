@@ -1,0 +1,157 @@
+-- Lines that end within the input: digits and 0a, fed from a line's start, are answered as the frame of the digits is. Assumes nothing.
+use mathlib.Core.Path.{_≡_, refl, sym, _∙_, ap, ap₂, subst}
+use mathlib.Core.Bool.{Bool, true, false, _&&_}
+use mathlib.Core.List.{List, [], _∷_, _++_, append-assoc, append-nil}
+use mathlib.Core.Option.{none}
+use Prim.Native.Nat.{ℕ, zero, suc, _+_, _≤_, _<_}
+use native.Mathlib.Nat.{add-zero}
+use native.Mathlib.Omega.{arith}
+use borrow.Author.Tests.{ne-eqb, ltb-true}
+use lib.Dec.{eqb, ltb}
+use lib.ListN.{length, getD, take, drop}
+use lib.Seq.{drop-cons}
+use Rattle.digits.specs.Digits.{digitOf}
+use Rattle.rules.specs.Tests.{if_then_else_}
+use Rattle.rules.specs.Bench as rules
+use Rattle.rules.proofs.Tests.{by-bool, and-left, and-right, and-both}
+use Rattle.lines.specs.Lines.{areDigits, byteOf, shortFrame, longFrame, frameOf, requestOf, answered, answerText}
+use Rattle.lines.specs.Feeding.{Feeding, between, framed, heldRequest, fedByte, saidByte, fed, said}
+use Rattle.lines.specs.NextEnds.{pairOf, EndsAs, WholeLine, BegunEnd, NextEnd}
+use Rattle.lines.proofs.BegunLines.{Begun, begun-none, begun-more, begun-request, fed-character}
+use Rattle.lines.proofs.LineFeeding.{fed-append, said-append}
+
+-- a digit ends no line
+digit-unended : (c : ℕ) → ltb (digitOf c) 16 ≡ true → eqb c 10 ≡ false
+digit-unended c h =
+    ne-eqb c 10 (λ e. let below = rw e at (ltb-true (digitOf c) 16 h) in let other : digitOf 10 ≡ 16 = refl in absurd (omega arith))
+
+-- ---- digits, fed one by one
+
+-- Digits have come after a line that had begun: nothing was said, the bench stayed, and they are known.
+record DigitsFed (f : Feeding) (before line : List ℕ) : Type 0 where
+  silent : said f line ≡ []
+  kept : fed f line .bench ≡ f .bench
+  begun : Begun (fed f line) (before ++ line)
+
+digits-fed : (line : List ℕ) (f : Feeding) (before : List ℕ) → areDigits line ≡ true → Begun f before → DigitsFed f before line
+unfolding fed said saidByte
+digits-fed [] f before h g = record { silent = refl; kept = refl; begun = rw append-nil g }
+digits-fed (c ∷ line) f before h g =
+    let on = digit-unended c (and-left (ltb (digitOf c) 16) (areDigits line) h) in
+    let more = digits-fed line (fedByte f c) (before ++ (c ∷ [])) (and-right (ltb (digitOf c) 16) (areDigits line) h) (begun-more f before c on g) in
+    record {
+      silent = rw on (more .silent);
+      kept = more .kept ∙ ap (λ (x : Feeding). x .bench) (fed-character f c on);
+      begun = subst (λ l. Begun (fed (fedByte f c) line) l) (append-assoc before (c ∷ []) line) (more .begun);
+    }
+
+-- the end of a line of digits
+pub digits-end : (line : List ℕ) → areDigits line ≡ true → EndsAs 0 0 (line ++ (10 ∷ [])) (frameOf line)
+unfolding fed said fedByte saidByte requestOf
+digits-end line h = record { leads = leads; says = says }
+  where
+    ended : (b : rules.Bench) → DigitsFed (between b) [] line
+    ended b = digits-fed line (between b) [] h (begun-none b)
+
+    request : (b : rules.Bench) → heldRequest (fed (between b) line .count) (fed (between b) line .value) ≡ frameOf line
+    request b =
+        begun-request (fed (between b) line) line (ended b .begun) ∙ ap (λ t. if t then frameOf line else none) h
+
+    leads : (b : rules.Bench) → fed (between b) (line ++ (10 ∷ [])) ≡ between (answered b (frameOf line) .next)
+    leads b =
+        fed-append (between b) line (10 ∷ [])
+        ∙ ap₂ (λ bench r. between (answered bench r .next)) (ended b .kept) (request b)
+
+    says : (b : rules.Bench) → said (between b) (line ++ (10 ∷ [])) ≡ answerText (answered b (frameOf line) .answer)
+    says b =
+        said-append (between b) line (10 ∷ [])
+        ∙ ap (λ text. text ++ said (fed (between b) line) (10 ∷ [])) (ended b .silent)
+        ∙ ap₂ (λ bench r. answerText (answered bench r .answer)) (ended b .kept) (request b)
+
+-- ---- characters of the input
+
+-- n characters of a list, from place at + i on
+abbrev pub characters : ℕ → List ℕ → ℕ → ℕ → List ℕ
+characters zero l at i = []
+characters (suc n) l at i = getD l (at + i) 0 ∷ characters n l at (i + 1)
+
+pub take-characters : (n : ℕ) (l : List ℕ) (at i : ℕ) → at + i + n ≤ length l → take n (drop (at + i) l) ≡ characters n l at i
+take-characters zero l at i h = refl
+take-characters (suc n) l at i h =
+    let next : suc (at + i) ≡ at + (i + 1) = omega arith in
+    rw (drop-cons l (at + i) 0 (omega arith), next)
+    (ap (λ (rest : List ℕ). getD l (at + i) 0 ∷ rest) (take-characters n l at (i + 1) (omega arith)))
+
+-- ---- pairs of digits
+
+pub pair-digits : (high low : ℕ) → pairOf high low < 256 → (ltb (digitOf high) 16 ≡ true) × (ltb (digitOf low) 16 ≡ true) × (pairOf high low ≡ byteOf high low)
+pair-digits high low h =
+    by-bool (ltb (digitOf high) 16 && ltb (digitOf low) 16)
+    (λ both. (
+      and-left (ltb (digitOf high) 16) (ltb (digitOf low) 16) both,
+      and-right (ltb (digitOf high) 16) (ltb (digitOf low) 16) both,
+      ap (λ t. if t then byteOf high low else 256) both,
+    ))
+    (λ other. let e = ap (λ t. if t then byteOf high low else 256) other in absurd (omega arith))
+
+-- four digits and 0a
+pub short-ends : (a b c d : ℕ) → pairOf a b < 256 → pairOf c d < 256 → EndsAs 0 0 (a ∷ b ∷ c ∷ d ∷ 10 ∷ []) (shortFrame (pairOf a b) (pairOf c d))
+short-ends a b c d h g =
+    let first = pair-digits a b h in
+    let second = pair-digits c d g in
+    rw (first .2, second .2) (digits-end (a ∷ b ∷ c ∷ d ∷ []) (rw (first .0, first .1, second .0, second .1)))
+
+-- six digits and 0a
+pub long-ends : (a b c d e f : ℕ) → pairOf a b < 256 → pairOf c d < 256 → pairOf e f < 256 → EndsAs 0 0 (a ∷ b ∷ c ∷ d ∷ e ∷ f ∷ 10 ∷ []) (longFrame (pairOf a b) (pairOf c d) (pairOf e f))
+long-ends a b c d e f h g k =
+    let first = pair-digits a b h in
+    let second = pair-digits c d g in
+    let third = pair-digits e f k in
+    rw (first .2, second .2, third .2)
+    (digits-end (a ∷ b ∷ c ∷ d ∷ e ∷ f ∷ []) (rw (first .0, first .1, second .0, second .1, third .0, third .1)))
+
+-- ---- ends that were found
+
+pub no-whole : {count value : ℕ} {input : List ℕ} {at code x y size : ℕ} → size ≡ 0 → code ≡ 0 → WholeLine count value input at code x y size
+no-whole none-found z =
+    record { small = omega arith; within = λ some. absurd (some none-found); ends = λ some. absurd (some none-found) }
+
+module _ (input : List ℕ) (at : ℕ) (room : at + 7 ≤ length input) where
+  -- so many characters from a place on
+  front : (n : ℕ) → n ≤ 7 → take n (drop at input) ≡ characters n input at 0
+  front n h = rw add-zero at (take-characters n input at 0 (omega arith))
+
+  module _ {code x y size p q : ℕ} (e : p ≡ pairOf (getD input at 0) (getD input (at + 1) 0)) (h : p < 256) (g : q ≡ pairOf (getD input (at + 2) 0) (getD input (at + 3) 0)) (k : q < 256) (small : code ≤ 6) where
+    pub short-whole : getD input (at + 4) 0 ≡ 10 → size ≡ 5 → framed code x y ≡ shortFrame p q → WholeLine 0 0 input at code x y size
+    short-whole end five frame =
+        let line : take 5 (drop at input) ≡ getD input at 0 ∷ getD input (at + 1) 0 ∷ getD input (at + 2) 0 ∷ getD input (at + 3) 0 ∷ getD input (at + 4) 0 ∷ [] = rw add-zero at (front 5 (omega arith)) in
+        record {
+          small = small;
+          within = λ some. omega arith;
+          ends = λ some. rw (five, line, end, frame, e, g) (short-ends _ _ _ _ (rw e at h) (rw g at k));
+        }
+
+    pub long-whole : {r : ℕ} → r ≡ pairOf (getD input (at + 4) 0) (getD input (at + 5) 0) → r < 256 → getD input (at + 6) 0 ≡ 10 → size ≡ 7 → framed code x y ≡ longFrame p q r → WholeLine 0 0 input at code x y size
+    long-whole e₃ h₃ end seven frame =
+        let line : take 7 (drop at input) ≡ getD input at 0 ∷ getD input (at + 1) 0 ∷ getD input (at + 2) 0 ∷ getD input (at + 3) 0 ∷ getD input (at + 4) 0 ∷ getD input (at + 5) 0 ∷ getD input (at + 6) 0 ∷ [] = rw add-zero at (front 7 (omega arith)) in
+        record {
+          small = small;
+          within = λ some. omega arith;
+          ends = λ some. rw (seven, line, end, frame, e, g, e₃) (long-ends _ _ _ _ _ _ (rw e at h) (rw g at k) (rw e₃ at h₃));
+        }
+
+-- the line that has begun, or none
+pub begun-ends : {count value : ℕ} {input : List ℕ} {at c code x y size : ℕ} → at < length input → c ≡ getD input at 0 → BegunEnd count value c code x y size → NextEnd count value input at code x y size
+unfolding fed said fedByte saidByte
+begun-ends {count} {value} {input} {at} {c} l e m =
+    let line : take 1 (drop at input) ≡ c ∷ [] = rw e (rw add-zero at (take-characters 1 input at 0 (omega arith))) in
+    record {
+      small = m .small;
+      goesOn = λ none-found end. m .goesOn none-found (e ∙ end);
+      within = λ some. let one = m .sized some in omega arith;
+      ends = λ some. rw (m .sized some, line, m .ended some, m .frame some) (record { leads = λ b. refl; says = λ b. refl });
+    }
+
+pub whole-ends : {count value : ℕ} {input : List ℕ} {at code x y size : ℕ} → (size ≡ 0 → ⊥) → WholeLine count value input at code x y size → NextEnd count value input at code x y size
+whole-ends some m =
+    record { small = m .small; goesOn = λ none-found. absurd (some none-found); within = m .within; ends = m .ends }

@@ -1,0 +1,92 @@
+-- A trace fed byte by byte: the bench, and what is known of the line that has begun. Its characters so far are `count` digits that write `value`; a
+-- count of 7 says that no request can come of the line any more.
+use mathlib.Core.Bool.{Bool, _&&_}
+use mathlib.Core.List.{List, [], _∷_, _++_}
+use mathlib.Core.Option.{Option, none, some}
+use mathlib.Core.Path.{_≡_}
+use Prim.Native.Nat.{ℕ, _+_, _*_, _/_, _%_, min}
+use lib.Dec.{eqb, ltb}
+use lib.ListN.{length}
+use Rattle.digits.specs.Digits.{digitOf}
+use Rattle.rules.specs.Tests.{if_then_else_}
+use Rattle.rules.specs.Bench as rules
+use Rattle.rules.specs.Requests.{Request, openTop, openSub, commit, abort}
+use Rattle.rules.specs.ReadWrite.{read, write}
+use lib.Seq.{sets}
+use Rattle.views.specs.View.{view}
+use Rattle.lines.specs.Lines.{shortFrame, longFrame, answered, answerText}
+
+pub record Feeding : Type 0 where
+  pub bench : rules.Bench
+  pub count : ℕ
+  pub value : ℕ
+
+-- nothing of a line has come yet
+abbrev pub between : rules.Bench → Feeding
+between b = record { bench = b; count = 0; value = 0 }
+
+-- the request of a frame's code and two numbers, a spare one ignored
+abbrev pub framed : ℕ → ℕ → ℕ → Option Request
+framed code x y =
+    if eqb code 1 then some (openTop x)
+    else if eqb code 2 then some (openSub x y)
+    else if eqb code 3 then some (read x y)
+    else if eqb code 4 then some (write x y)
+    else if eqb code 5 then some (commit x)
+    else if eqb code 6 then some (abort x)
+    else none
+
+-- the request of the line as it stands
+unfoldable pub heldRequest : ℕ → ℕ → Option Request
+heldRequest count value =
+    if eqb count 4 then shortFrame (value / 256) (value % 256)
+    else if eqb count 6 then longFrame (value / 65536) (value / 256 % 256) (value % 256)
+    else none
+
+-- whether one more character may be a digit of a request
+abbrev pub mayGoOn : ℕ → ℕ → Bool
+mayGoOn count c = ltb count 6 && ltb (digitOf c) 16
+
+-- the count and the value after one more character (five digits and one more always have room: the remainder is there for a player that was never fed)
+abbrev pub countAfter : ℕ → ℕ → ℕ
+countAfter count c = if mayGoOn count c then count + 1 else 7
+
+abbrev pub valueAfter : ℕ → ℕ → ℕ → ℕ
+valueAfter count value c = if mayGoOn count c then value % 16777216 * 16 + digitOf c else 0
+
+-- after one byte: a line's end is answered, any other byte is a character of the line
+unfoldable pub fedByte : Feeding → ℕ → Feeding
+fedByte f c =
+    if eqb c 10 then between (answered (f .bench) (heldRequest (f .count) (f .value)) .next)
+    else record { bench = f .bench; count = countAfter (f .count) c; value = valueAfter (f .count) (f .value) c }
+
+-- what is written for it
+unfoldable pub saidByte : Feeding → ℕ → List ℕ
+saidByte f c = if eqb c 10 then answerText (answered (f .bench) (heldRequest (f .count) (f .value)) .answer) else []
+
+-- after any bytes, and what is written for them
+unfoldable pub fed : Feeding → List ℕ → Feeding
+fed f [] = f
+fed f (c ∷ rest) = fed (fedByte f c) rest
+
+unfoldable pub said : Feeding → List ℕ → List ℕ
+said f [] = []
+said f (c ∷ rest) = saidByte f c ++ said (fedByte f c) rest
+
+-- The end of the input: a last line that lacks its 0a is answered if it has at least one character.
+unfoldable pub saidAtEnd : Feeding → List ℕ
+saidAtEnd f = if eqb (f .count) 0 then [] else saidByte f 10
+
+-- how many bytes are taken at once: all, or as many as surely have room for their answers
+abbrev pub taken : List ℕ → List ℕ → ℕ
+taken input out = min (length input) (length out / 3)
+
+-- four arrays and a line that has begun
+abbrev pub feedingOf : List ℕ → List ℕ → List ℕ → List ℕ → ℕ → ℕ → Feeding
+feedingOf parents states reads writes count value = record { bench = view parents states reads writes; count = count; value = value }
+
+-- Bytes have been fed: what stands now in the arrays and of the line, what was written from place `at` on, and up to where.
+pub record FedBytes (from : Feeding) (bytes out : List ℕ) (at : ℕ) (now : Feeding) (out' : List ℕ) (at' : ℕ) : Type 0 where
+  pub is : now ≡ fed from bytes
+  pub wrote : out' ≡ sets out at (said from bytes)
+  pub upTo : at' ≡ at + length (said from bytes)

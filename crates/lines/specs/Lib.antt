@@ -1,0 +1,4 @@
+pub mod Lines
+pub mod Arrays
+pub mod Feeding
+pub mod NextEnds

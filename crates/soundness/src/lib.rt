@@ -1,0 +1,194 @@
+// The soundness test: rules 1 to 4 of document 01 on the four arrays, in the order in which they are cheapest to refuse.
+pub mod index;
+
+use index::COMMITTED;
+use index::FREE;
+use index::RUNNING;
+use index::wide;
+ghost use mathlib.Core.Path.{_≡_};
+ghost use Prim.Native.Nat.{ℕ, _≤_, _<_};
+ghost use lib.Dec.{leb};
+ghost use lib.ListN.{getD};
+ghost use Rattle.sets.specs.Sets.{member};
+ghost use Rattle.rules.specs.Tests.{all, any};
+ghost use Rattle.rules.specs.Sound.{sound, reachesTop};
+ghost use Rattle.rules.specs.ReadWrite.{readWrite};
+ghost use Rattle.views.specs.View.{view};
+ghost use Rattle.views.specs.Parts.{upOf, bytesFit, forbidsOf, forbiddenUnder, permitted, upperChild, NoParentsFrom, ofMembers, standsAt, inUse, stepFrom, StepsUp, Jumped};
+
+// Each number's bytes by themselves: rules 1 and 2 but for the sets, and that a parent's byte names a number of the table.
+fn bytes_fit<'a>(parents: &'a [u8; 64], states: &'a [u8; 64]) -> bool
+    ensures { λ r. ⌜ r ≡ all 64 (bytesFit (now (parents .entry)) (now (states .entry))) ⌝ }
+{
+    let mut ok = true;
+    for k in 0..64usize {
+        let p = parents[k];
+        let s = states[k];
+        ok = ok
+            & ((s <= COMMITTED)
+                & (p <= 64)
+                & ((p != 0) | (s != COMMITTED))
+                & ((s != FREE) | (p == 0)));
+    }
+    ok
+}
+
+// What a number in state s forbids its children to be: 1 running, 2 committed, 3 both.
+fn forbids(s: u8) -> u8
+    ensures { λ r. ⌜ r ≡ forbidsOf s ⌝ }
+{
+    if s == FREE {
+        return 3;
+    }
+    if s == RUNNING {
+        return 0;
+    }
+    1
+}
+
+// What each parent's byte forbids.
+fn forbidden(states: &[u8; 64]) -> [u8; 65]
+    ensures { λ r. ⌜ ((p : ℕ) → p < 65 → getD r p 0 ≡ forbiddenUnder (now (states .entry)) p) ⌝ }
+{
+    let mut table = [0u8; 65];
+    for k in 0..64usize {
+        table[k + 1] = forbids(states[k]);
+    }
+    table
+}
+
+// Whether one of the upper 32 numbers has a parent.
+pub fn upper_child(parents: &[u8; 64]) -> bool
+    ensures { λ r. ⌜ r ≡ upperChild (now (parents .entry)) ⌝ }
+{
+    let mut found = false;
+    for k in 32..64usize {
+        found = found | (parents[k] != 0);
+    }
+    found
+}
+
+// A number from which on no number has a parent: where only the lower half is used, half the work is left out.
+fn end_of_children(parents: &[u8; 64]) -> usize
+    ensures { λ r. ⌜ (r ≤ 64) × NoParentsFrom (now (parents .entry)) r ⌝ }
+{
+    if upper_child(parents) {
+        return 64;
+    }
+    32
+}
+
+// Rule 4, and that no parent is free.
+fn parents_stand<'a>(parents: &'a [u8; 64], states: &'a [u8; 64]) -> bool
+    requires { ⌜ ((k : ℕ) → k < 64 → getD (now parents) k 0 ≤ 64) ⌝ }
+    ensures { λ r. ⌜ r ≡ all 64 (permitted (now (parents .entry)) (now (states .entry))) ⌝ }
+{
+    let table = forbidden(states);
+    let end = end_of_children(parents);
+    let mut broken = 0u8;
+    for k in 0..end {
+        broken = broken | (table[wide(parents[k])] & states[k]);
+    }
+    broken == 0
+}
+
+// Each number's parent, by its byte: place 0 is the end that every chain is to reach, and place k + 1 is number k's.
+fn steps_up(parents: &[u8; 64]) -> [u8; 65]
+    ensures { λ r. ⌜ ((x : ℕ) → x < 65 → getD r x 0 ≡ stepFrom (now (parents .entry)) x) ⌝ }
+{
+    let mut up = [0u8; 65];
+    for k in 0..64usize {
+        up[k + 1] = parents[k];
+    }
+    up
+}
+
+// Each number's step up becomes that of the number it leads to, so that steps grow at least twice as long; the result is 0 where every chain
+// has reached the end.
+fn jump(up: &mut [u8; 65]) -> u8
+    requires { ⌜ StepsUp (now up) ⌝ }
+    ensures { λ r. ⌜ Jumped (now (up .entry)) (now (up .exit)) r ⌝ }
+{
+    let mut left = 0u8;
+    for k in 0..65usize {
+        let far = up[wide(up[k])];
+        up[k] = far;
+        left = left | far;
+    }
+    left
+}
+
+// Whether every parent has a lower number than its child, as where actions are opened in the order of their numbers.
+pub fn parents_lower(parents: &[u8; 64]) -> bool
+    ensures { λ r. ⌜ r ≡ all 64 (λ k. leb (getD (now (parents .entry)) k 0) k) ⌝ }
+{
+    let mut ok = true;
+    for k in 0..64usize {
+        ok = ok & (wide(parents[k]) <= k);
+    }
+    ok
+}
+
+// Rule 3's chains: from every number, going from parent to parent reaches a number with none within 63 steps.
+fn chains_end(parents: &[u8; 64]) -> bool
+    requires { ⌜ ((k : ℕ) → k < 64 → getD (now parents) k 0 ≤ 64) ⌝ }
+    ensures { λ r. ⌜ r ≡ all 64 (reachesTop 63 (upOf (now (parents .entry)))) ⌝ }
+{
+    if parents_lower(parents) {
+        return true;
+    }
+    let mut up = steps_up(parents);
+    for round in 0..6usize {
+        if jump(&mut up) == 0 {
+            return true;
+        }
+    }
+    false
+}
+
+// All numbers that stand in a set.
+fn standing<'a>(reads: &'a [u64; 128], writes: &'a [u64; 128]) -> u64
+    ensures { λ r. ⌜ ((k : ℕ) → member r k ≡ any 128 (standsAt (now (reads .entry)) (now (writes .entry)) k)) ⌝ }
+{
+    let mut numbers = 0u64;
+    for i in 0..128usize {
+        numbers = sets::union(sets::union(numbers, reads[i]), writes[i]);
+    }
+    numbers
+}
+
+// Whether none of the numbers is free.
+fn none_free(states: &[u8; 64], numbers: u64) -> bool
+    ensures { λ r. ⌜ r ≡ ofMembers 64 numbers (inUse (now (states .entry))) ⌝ }
+{
+    let mut rest = numbers;
+    while rest != 0 {
+        let k = sets::least(rest);
+        if states[k] == FREE {
+            return false;
+        }
+        rest = sets::without_least(rest);
+    }
+    true
+}
+
+// Whether the record of these arrays is sound.
+pub fn sound<'a>(
+    parents: &'a [u8; 64],
+    states: &'a [u8; 64],
+    reads: &'a [u64; 128],
+    writes: &'a [u64; 128],
+) -> bool
+    ensures { λ r. ⌜ r ≡ sound readWrite (view (now (parents .entry)) (now (states .entry)) (now (reads .entry)) (now (writes .entry))) ⌝ }
+{
+    if !bytes_fit(parents, states) {
+        return false;
+    }
+    if !parents_stand(parents, states) {
+        return false;
+    }
+    if !chains_end(parents) {
+        return false;
+    }
+    none_free(states, standing(reads, writes))
+}

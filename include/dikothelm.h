@@ -1,0 +1,226 @@
+/* Dikothelm: a lock table for a test bench of 128 instruments and 64 action numbers, for C and C++.
+
+   Actions nest, siblings run side by side, and instruments are locked by Moss's rules: an action may read what only itself and its ancestors write,
+   and may write what only itself and its ancestors read or write. A committed subaction's locks count as its parent's.
+
+   The dikothelm_image_ functions are the proved library; link target/staticlib/libdikothelm.a, which `rt staticlib dikothelm` proves and builds. Below
+   them stand the same ones over a struct, and a few that only look at it: plain C, tested, not proved.
+
+   No function allocates, prints or keeps anything between calls; every number and every content of a record has its answer.
+   What the caller must see to: pointers are valid for their lengths, aligned, and what is lent to write doesn't overlap the rest. */
+#ifndef DIKOTHELM_H
+#define DIKOTHELM_H
+
+#include <stddef.h>
+#include <stdint.h>
+
+#define DIKOTHELM_ACTIONS 64        /* action numbers are 0 to 63 */
+#define DIKOTHELM_INSTRUMENTS 128   /* instruments are 0 to 127 */
+#define DIKOTHELM_LONGEST_TEXT 5312 /* a saved bench has at most so many bytes */
+
+/* Where several answers apply, 7 comes first and then the lowest. (A line or a text: 8 first.) */
+enum dikothelm_answer {
+    DIKOTHELM_ACCEPTED = 0,           /* done */
+    DIKOTHELM_NO_SUCH_ACTION = 1,     /* an action number is above 63 */
+    DIKOTHELM_NO_SUCH_INSTRUMENT = 2, /* the instrument is above 127 */
+    DIKOTHELM_NOT_FREE = 3,           /* the number to open is in use, running or committed */
+    DIKOTHELM_NOT_RUNNING = 4,        /* the acting number, or the parent to open under, isn't running */
+    DIKOTHELM_RUNNING_CHILD = 5,      /* the acting number has a running child */
+    DIKOTHELM_NOT_GRANTED = 6,        /* an owner in a conflicting mode is neither the asker nor an ancestor of it */
+    DIKOTHELM_UNSOUND = 7,            /* the record isn't sound, or has another length */
+    DIKOTHELM_MALFORMED = 8,          /* the line or the saved text is malformed */
+    DIKOTHELM_NO_ROOM = 9             /* the buffer is shorter than the text */
+};
+
+enum dikothelm_action_state { DIKOTHELM_FREE = 0, DIKOTHELM_RUNNING = 1, DIKOTHELM_COMMITTED = 2 };
+
+/* The places of a player's progress, four words; all 0 before the first call. */
+enum dikothelm_progress {
+    DIKOTHELM_DIGITS = 0,  /* 0 exactly where no line has begun */
+    DIKOTHELM_VALUE = 1,   /* what the digits of a begun line write */
+    DIKOTHELM_TAKEN = 2,   /* bytes of the input that the last call took */
+    DIKOTHELM_WRITTEN = 3, /* bytes of answers that it wrote */
+    DIKOTHELM_PROGRESS = 4 /* the number of words */
+};
+
+#ifdef __cplusplus
+extern "C" {
+#endif
+
+/* The proved library, over a record of two arrays:
+
+     actions, 128 bytes: the parents of numbers 0 to 63 (0: none, else the parent's number + 1), then their states (enum dikothelm_action_state);
+     owners, 256 words: the read sets of instruments 0 to 127, then their write sets (bit k: number k).
+
+   Lengths count elements. A record of other lengths gets 7. Whatever the answer but 0, nothing changes (load apart). */
+
+/* Makes the record an empty bench. 0, or 7 for another length. */
+uint8_t dikothelm_image_empty(uint8_t *actions, size_t actions_length, uint64_t *owners, size_t owners_length);
+
+/* Whether the record is a sound bench. 0 if so, else 7. */
+uint8_t dikothelm_image_sound(const uint8_t *actions, size_t actions_length, const uint64_t *owners, size_t owners_length);
+
+/* Makes n a running top action. 7; 1: n above 63; 3: n isn't free. */
+uint8_t dikothelm_image_open_top(uint8_t *actions, size_t actions_length, uint64_t *owners, size_t owners_length, uint32_t n);
+
+/* Makes n a running action under p. 7; 1: n or p above 63; 3: n isn't free; 4: p isn't running. */
+uint8_t dikothelm_image_open_sub(uint8_t *actions, size_t actions_length, uint64_t *owners, size_t owners_length, uint32_t n, uint32_t p);
+
+/* Lets a read instrument i. 7; 1: a above 63; 2: i above 127; 4: a isn't running; 5: a has a running child; 6: an owner of the write set is neither a
+   nor an ancestor of a. */
+uint8_t dikothelm_image_read(uint8_t *actions, size_t actions_length, uint64_t *owners, size_t owners_length, uint32_t a, uint32_t i);
+
+/* Lets a write instrument i. As read; 6: an owner of either set is neither a nor an ancestor of a. */
+uint8_t dikothelm_image_write(uint8_t *actions, size_t actions_length, uint64_t *owners, size_t owners_length, uint32_t a, uint32_t i);
+
+/* Commits a: its parent inherits its locks. A top's commit frees it and all its descendants, and their locks. 7; 1: a above 63; 4: a isn't running; 5: a
+   has a running child. */
+uint8_t dikothelm_image_commit(uint8_t *actions, size_t actions_length, uint64_t *owners, size_t owners_length, uint32_t a);
+
+/* Aborts a: frees it and all its descendants, running or committed, and their locks. 7; 1: a above 63; 4: a isn't running. */
+uint8_t dikothelm_image_abort(uint8_t *actions, size_t actions_length, uint64_t *owners, size_t owners_length, uint32_t a);
+
+/* Writes the bench as text to the start of out; bytes behind it stay. count: the bytes written, 0 where refused. 0; 7; 9: out is shorter than the text. */
+uint8_t dikothelm_image_save(const uint8_t *actions, size_t actions_length, const uint64_t *owners, size_t owners_length, uint8_t *out, size_t out_length,
+                             size_t *count);
+
+/* Makes the record the bench that a text saved. 0; 8: the text is malformed; 7: it is well shaped and its bench isn't sound, or the record has another
+   length. Refused, it leaves an empty bench (a record of another length stays as it is). */
+uint8_t dikothelm_image_load(uint8_t *actions, size_t actions_length, uint64_t *owners, size_t owners_length, const uint8_t *text, size_t text_length);
+
+/* Plays lines of hexadecimal, each ended by a newline: 01nn open top, 02nnpp open sub, 03aaii read, 04aaii write, 05aa commit, 06aa abort; any other line
+   gets 8. For each line it writes the answer to out: two digits and a newline. A call takes the input's first bytes, no more than out_length / 3 of them;
+   progress says how many it took and wrote and carries a begun line to the next call. A last line without its newline: play "\n" where
+   progress[DIKOTHELM_DIGITS] isn't 0. 0, or 7 where the record or progress has another length; on an unsound record each line gets its 07. */
+uint8_t dikothelm_image_play(uint8_t *actions, size_t actions_length, uint64_t *owners, size_t owners_length, uint64_t *progress, size_t progress_length,
+                             const uint8_t *input, size_t input_length, uint8_t *out, size_t out_length);
+
+#ifdef __cplusplus
+}
+#endif
+
+/* The same over a struct. A bench of zeros is the empty bench: `dikothelm_bench bench = {0};`, in C++ `dikothelm_bench bench = {};`. */
+typedef struct dikothelm_bench {
+    uint8_t actions[2 * DIKOTHELM_ACTIONS];
+    uint64_t owners[2 * DIKOTHELM_INSTRUMENTS];
+} dikothelm_bench;
+
+#define DIKOTHELM_IMAGE_(bench) (bench)->actions, (size_t)(2 * DIKOTHELM_ACTIONS), (bench)->owners, (size_t)(2 * DIKOTHELM_INSTRUMENTS)
+
+/* 0. */
+static inline enum dikothelm_answer dikothelm_empty(dikothelm_bench *bench) {
+    return (enum dikothelm_answer)dikothelm_image_empty(DIKOTHELM_IMAGE_(bench));
+}
+
+/* 0 or 7. */
+static inline enum dikothelm_answer dikothelm_sound(const dikothelm_bench *bench) {
+    return (enum dikothelm_answer)dikothelm_image_sound(DIKOTHELM_IMAGE_(bench));
+}
+
+/* 0, 1, 3 or 7. */
+static inline enum dikothelm_answer dikothelm_open_top(dikothelm_bench *bench, uint32_t n) {
+    return (enum dikothelm_answer)dikothelm_image_open_top(DIKOTHELM_IMAGE_(bench), n);
+}
+
+/* 0, 1, 3, 4 or 7. */
+static inline enum dikothelm_answer dikothelm_open_sub(dikothelm_bench *bench, uint32_t n, uint32_t p) {
+    return (enum dikothelm_answer)dikothelm_image_open_sub(DIKOTHELM_IMAGE_(bench), n, p);
+}
+
+/* 0, 1, 2, 4, 5, 6 or 7. */
+static inline enum dikothelm_answer dikothelm_read(dikothelm_bench *bench, uint32_t a, uint32_t i) {
+    return (enum dikothelm_answer)dikothelm_image_read(DIKOTHELM_IMAGE_(bench), a, i);
+}
+
+/* 0, 1, 2, 4, 5, 6 or 7. */
+static inline enum dikothelm_answer dikothelm_write(dikothelm_bench *bench, uint32_t a, uint32_t i) {
+    return (enum dikothelm_answer)dikothelm_image_write(DIKOTHELM_IMAGE_(bench), a, i);
+}
+
+/* 0, 1, 4, 5 or 7. */
+static inline enum dikothelm_answer dikothelm_commit(dikothelm_bench *bench, uint32_t a) {
+    return (enum dikothelm_answer)dikothelm_image_commit(DIKOTHELM_IMAGE_(bench), a);
+}
+
+/* 0, 1, 4 or 7. */
+static inline enum dikothelm_answer dikothelm_abort(dikothelm_bench *bench, uint32_t a) {
+    return (enum dikothelm_answer)dikothelm_image_abort(DIKOTHELM_IMAGE_(bench), a);
+}
+
+/* 0, 7 or 9. */
+static inline enum dikothelm_answer dikothelm_save(const dikothelm_bench *bench, uint8_t *out, size_t out_length, size_t *count) {
+    return (enum dikothelm_answer)dikothelm_image_save(DIKOTHELM_IMAGE_(bench), out, out_length, count);
+}
+
+/* 0, 7 or 8. */
+static inline enum dikothelm_answer dikothelm_load(dikothelm_bench *bench, const uint8_t *text, size_t text_length) {
+    return (enum dikothelm_answer)dikothelm_image_load(DIKOTHELM_IMAGE_(bench), text, text_length);
+}
+
+/* 0. progress has DIKOTHELM_PROGRESS words. */
+static inline enum dikothelm_answer dikothelm_play(dikothelm_bench *bench, uint64_t *progress, const uint8_t *input, size_t input_length, uint8_t *out,
+                                                   size_t out_length) {
+    return (enum dikothelm_answer)dikothelm_image_play(DIKOTHELM_IMAGE_(bench), progress, (size_t)DIKOTHELM_PROGRESS, input, input_length, out, out_length);
+}
+
+/* Looking at a bench. */
+
+/* The state of number n, DIKOTHELM_FREE, DIKOTHELM_RUNNING or DIKOTHELM_COMMITTED (or a byte that means nothing); a number above 63 is free. */
+static inline uint8_t dikothelm_state(const dikothelm_bench *bench, uint32_t n) {
+    return n < DIKOTHELM_ACTIONS ? bench->actions[DIKOTHELM_ACTIONS + n] : (uint8_t)DIKOTHELM_FREE;
+}
+
+/* The parent of number n; -1 for a top action, a free number and a number above 63. */
+static inline int dikothelm_parent(const dikothelm_bench *bench, uint32_t n) {
+    return n < DIKOTHELM_ACTIONS ? (int)bench->actions[n] - 1 : -1;
+}
+
+/* The running action that number n's locks count for: the nearest running one among n and its ancestors; -1 if there is none. */
+static inline int dikothelm_heir(const dikothelm_bench *bench, uint32_t n) {
+    int steps, k = n < DIKOTHELM_ACTIONS ? (int)n : -1;
+    for (steps = 0; steps < DIKOTHELM_ACTIONS && k >= 0 && k < DIKOTHELM_ACTIONS; steps++) {
+        if (bench->actions[DIKOTHELM_ACTIONS + k] == DIKOTHELM_RUNNING) return k;
+        k = (int)bench->actions[k] - 1;
+    }
+    return -1;
+}
+
+/* The read set of instrument i, bit k for number k, committed numbers too; empty for an instrument above 127. */
+static inline uint64_t dikothelm_readers(const dikothelm_bench *bench, uint32_t i) {
+    return i < DIKOTHELM_INSTRUMENTS ? bench->owners[i] : 0;
+}
+
+/* The write set of instrument i, likewise. */
+static inline uint64_t dikothelm_writers(const dikothelm_bench *bench, uint32_t i) {
+    return i < DIKOTHELM_INSTRUMENTS ? bench->owners[DIKOTHELM_INSTRUMENTS + i] : 0;
+}
+
+/* The owners that a set of numbers stands for by Moss's rules: the heirs of its members. */
+static inline uint64_t dikothelm_heirs(const dikothelm_bench *bench, uint64_t numbers) {
+    uint64_t found = 0;
+    uint32_t k;
+    for (k = 0; k < DIKOTHELM_ACTIONS; k++) {
+        int heir = numbers >> k & 1 ? dikothelm_heir(bench, k) : -1;
+        if (heir >= 0) found |= (uint64_t)1 << heir;
+    }
+    return found;
+}
+
+/* An answer in words. */
+static inline const char *dikothelm_says(enum dikothelm_answer answer) {
+    switch (answer) {
+    case DIKOTHELM_ACCEPTED: return "accepted";
+    case DIKOTHELM_NO_SUCH_ACTION: return "no such action number";
+    case DIKOTHELM_NO_SUCH_INSTRUMENT: return "no such instrument";
+    case DIKOTHELM_NOT_FREE: return "the number isn't free";
+    case DIKOTHELM_NOT_RUNNING: return "the acting number isn't running";
+    case DIKOTHELM_RUNNING_CHILD: return "it has a running child";
+    case DIKOTHELM_NOT_GRANTED: return "not granted: an action that is no ancestor owns it";
+    case DIKOTHELM_UNSOUND: return "the record isn't sound";
+    case DIKOTHELM_MALFORMED: return "malformed";
+    case DIKOTHELM_NO_ROOM: return "the buffer is too short";
+    }
+    return "no answer of the table";
+}
+
+#endif

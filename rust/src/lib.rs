@@ -1,0 +1,63 @@
+//! A lock table for a test bench of 128 instruments and 64 action numbers, written in Rattle and proved.
+//!
+//! Actions nest, siblings run side by side, and instruments are locked by Moss's rules: an action may read what only itself and its ancestors write, and
+//! may write what only itself and its ancestors read or write. A committed subaction's locks count as its parent's.
+//!
+//! ```
+//! use dikothelm::{Bench, Refusal};
+//!
+//! let mut bench = Bench::new();
+//! bench.open_top(1)?;
+//! bench.open_sub(2, 1)?;
+//! bench.open_sub(3, 1)?;
+//! bench.write(2, 5)?; // 2 writes instrument 5
+//! assert_eq!(bench.read(3, 5), Err(Refusal::NotGranted)); // 2 is a sibling of 3
+//! bench.commit(2)?; // 1 inherits
+//! bench.read(3, 5)?; // now an ancestor of 3 owns it
+//! # Ok::<(), Refusal>(())
+//! ```
+//!
+//! The six requests, saving, loading and playing are the proved library's; what this crate adds around them is plain Rust, tested and not proved. Nothing
+//! panics, whatever numbers are asked and whatever a record holds.
+
+#![deny(missing_docs)]
+#![deny(unsafe_code)]
+
+mod answer;
+mod bench;
+#[allow(unsafe_code)]
+pub mod image;
+mod numbers;
+mod player;
+
+pub use answer::{Answer, Refusal};
+pub use bench::{Bench, State};
+pub use numbers::{Members, Numbers};
+pub use player::Player;
+
+/// How many action numbers there are: 0 to 63.
+///
+/// ```
+/// let mut bench = dikothelm::Bench::new();
+/// assert!(bench.open_top(dikothelm::ACTIONS - 1).is_ok());
+/// assert!(bench.open_top(dikothelm::ACTIONS).is_err());
+/// ```
+pub const ACTIONS: u32 = 64;
+
+/// How many instruments there are: 0 to 127.
+///
+/// ```
+/// let mut bench = dikothelm::Bench::new();
+/// bench.open_top(0)?;
+/// bench.read(0, dikothelm::INSTRUMENTS - 1)?;
+/// assert!(bench.read(0, dikothelm::INSTRUMENTS).is_err());
+/// # Ok::<(), dikothelm::Refusal>(())
+/// ```
+pub const INSTRUMENTS: u32 = 128;
+
+/// A saved bench has at most so many bytes: 64 lines of 9 and 128 lines of 37.
+///
+/// ```
+/// assert_eq!(dikothelm::LONGEST_TEXT, 64 * 9 + 128 * 37);
+/// ```
+pub const LONGEST_TEXT: usize = 5312;

@@ -1,0 +1,138 @@
+//! The named sessions on both sides of each edge, and what the crate's types say in words.
+
+use std::collections::HashSet;
+use std::error::Error;
+
+use dikothelm::{Answer, Bench, Player, Refusal, State};
+
+/// Plays a trace from an empty bench and compares the answers, in the order of the lines.
+fn session(lines: &[(&str, u8)]) {
+    let mut player = Player::new();
+    for (turn, (line, answer)) in lines.iter().enumerate() {
+        let said = player.feed(format!("{line}\n").as_bytes());
+        assert_eq!(said, format!("{answer:02x}\n").into_bytes(), "line {turn}: {line}");
+    }
+}
+
+#[test]
+fn numbers_at_the_edges() {
+    session(&[("030000", 4), ("030080", 2), ("034080", 1)]);
+    session(&[("013f", 0), ("0140", 1)]);
+    session(&[("020707", 4), ("0107", 0), ("020707", 3)]);
+    let mut bench = Bench::new();
+    assert_eq!(bench.read(0, 0), Err(Refusal::NotRunning));
+    assert_eq!(bench.read(0, 128), Err(Refusal::NoSuchInstrument));
+    assert_eq!(bench.read(64, 128), Err(Refusal::NoSuchAction));
+    assert_eq!(bench.open_top(u32::MAX), Err(Refusal::NoSuchAction));
+    assert_eq!(bench.open_sub(1, 256), Err(Refusal::NoSuchAction));
+}
+
+#[test]
+fn two_tops() {
+    session(&[("0101", 0), ("0109", 0), ("030105", 0), ("030905", 0), ("040105", 6)]);
+    session(&[("0101", 0), ("0109", 0), ("04017f", 0), ("04097f", 6), ("040980", 2)]);
+}
+
+#[test]
+fn the_whole_case() {
+    session(&[
+        ("0101", 0),
+        ("020201", 0),
+        ("020301", 0),
+        ("040205", 0),
+        ("030305", 6),
+        ("0502", 0),
+        ("030305", 0),
+        ("040305", 0),
+        ("0501", 5),
+        ("0603", 0),
+        ("040105", 0),
+        ("0501", 0),
+    ]);
+}
+
+#[test]
+fn families() {
+    session(&[("0101", 0), ("020201", 0), ("020301", 0), ("020403", 0), ("040205", 0), ("040405", 6), ("0502", 0), ("040405", 0)]);
+    session(&[("0101", 0), ("020201", 0), ("030105", 5), ("0501", 5), ("0601", 0)]);
+    session(&[("0101", 0), ("040105", 0), ("020201", 0), ("040205", 0), ("0602", 0), ("0109", 0), ("040905", 6)]);
+    session(&[("0101", 0), ("020201", 0), ("020302", 0), ("040305", 0), ("0503", 0), ("0602", 0), ("0109", 0), ("040905", 0)]);
+    session(&[("0101", 0), ("020201", 0), ("0502", 0), ("0102", 3), ("0501", 0), ("0102", 0)]);
+}
+
+#[test]
+fn answers_in_words() {
+    let words: Vec<String> = (0..=9).map(|number| Answer::from_number(number).unwrap().to_string()).collect();
+    assert_eq!(words.iter().collect::<HashSet<_>>().len(), 10);
+    for number in 0..=255 {
+        assert_eq!(Answer::from_number(number).map(Answer::number), (number <= 9).then_some(number));
+        assert_eq!(Refusal::from_number(number).map(Refusal::number), (1..=9).contains(&number).then_some(number));
+    }
+    let refusal: Box<dyn Error> = Box::new(Refusal::NotGranted);
+    assert_eq!(refusal.to_string(), "not granted: an action that is no ancestor owns it");
+    assert_eq!(Result::<(), Refusal>::from(Answer::Accepted), Ok(()));
+    assert_eq!(Result::<(), Refusal>::from(Answer::Refused(Refusal::NoRoom)), Err(Refusal::NoRoom));
+}
+
+#[test]
+fn debug_shows_who_owns_what() {
+    let mut bench = Bench::new();
+    assert_eq!(format!("{bench:?}"), "Bench { actions: {}, instruments: {} }");
+    for result in [bench.open_top(1), bench.open_sub(2, 1), bench.open_sub(3, 1), bench.write(2, 5), bench.read(3, 127), bench.read(2, 127)] {
+        assert_eq!(result, Ok(()));
+    }
+    assert_eq!(bench.commit(2), Ok(()));
+    assert_eq!(
+        format!("{bench:?}"),
+        "Bench { actions: {1: running, 2: committed under 1, 3: running under 1}, \
+         instruments: {5: written by 1 (from 2), 127: read by 1 (from 2) and 3} }"
+    );
+    assert_eq!(bench.read(3, 5), Ok(()));
+    assert_eq!(
+        format!("{bench:#?}"),
+        "Bench {
+    actions: {
+        1: running,
+        2: committed under 1,
+        3: running under 1,
+    },
+    instruments: {
+        5: read by 3, written by 1 (from 2),
+        127: read by 1 (from 2) and 3,
+    },
+}"
+    );
+}
+
+#[test]
+fn an_unsound_record_can_be_held() {
+    let (mut actions, mut owners) = ([0; 128], [0; 256]);
+    actions[64] = 9;
+    actions[1] = 200;
+    owners[128 + 7] = 1 << 5;
+    let mut bench = Bench::from_image(actions, owners);
+    assert!(!bench.is_sound());
+    assert_eq!((bench.actions(), bench.owners()), (&actions, &owners));
+    assert_eq!(bench.state(0), None);
+    assert_eq!(bench.state(1), Some(State::Free));
+    assert_eq!(bench.parent(1), Some(199));
+    assert_eq!(bench.heir(1), None);
+    assert_eq!(format!("{bench:?}"), "UnsoundBench { actions: {0: meaningless, 1: free under 199}, instruments: {7: written by nobody (from 5)} }");
+    for result in [bench.open_top(64), bench.open_sub(1, 2), bench.read(0, 128), bench.write(0, 0), bench.commit(64), bench.abort(0)] {
+        assert_eq!(result, Err(Refusal::Unsound));
+    }
+    assert_eq!((bench.actions(), bench.owners()), (&actions, &owners));
+}
+
+#[test]
+fn a_bench_is_a_plain_value() {
+    let mut bench = Bench::new();
+    let before = bench.clone();
+    assert_eq!(bench.open_top(1), Ok(()));
+    assert_ne!(bench, before);
+    assert_eq!(bench.abort(1), Ok(()));
+    assert_eq!(bench, before);
+    assert_eq!(std::mem::size_of::<Bench>(), 128 + 256 * 8);
+    fn sent<T: Send + Sync>(_: &T) {}
+    sent(&bench);
+}
