@@ -1,23 +1,26 @@
 -- Requests on four arrays of a sound bench, in place: the row that was found is the answer, and the arrays that a request leaves are the step's and
 -- again those of a sound bench. Assumes nothing.
 use mathlib.Core.Path.{_≡_, refl, sym, _∙_, ap}
-use mathlib.Core.Bool.{true}
+use mathlib.Core.Bool.{Bool, true, false, not}
 use mathlib.Core.List.{List, []}
 use mathlib.Core.Option.{some}
 use Prim.Native.Nat.{ℕ, _+_, _%_}
 use lib.ListN.{length, getD, set, length-set}
+use lib.Seq.{set-getD}
 use Rattle.sets.specs.Sets.{with, union}
+use Rattle.rules.specs.Tests.{if_then_else_}
 use Rattle.rules.specs.Owners.{hasRunningChild}
-use Rattle.rules.specs.Requests.{Request, openTop, openSub, commit, abort}
+use Rattle.rules.specs.Requests.{Request, openTop, openSub, ask, commit, abort}
 use Rattle.rules.specs.Answers.{row, rowBy, answerOf, Outcome, step}
 use Rattle.rules.specs.Sound.{sound}
 use Rattle.rules.specs.ReadWrite.{readWrite, read, write}
+use Rattle.rules.proofs.Accepted.{Commits, Aborts}
 use Rattle.rules.proofs.Kept.{step-keeps-sound}
 use Rattle.bench.specs.declared.Bench.{Bench}
 use Rattle.views.specs.View.{view}
 use Rattle.views.specs.Parts.{tree, SoundTree, InUse}
-use Rattle.lines.specs.Arrays.{SoundArrays, Stepped, Freed}
-use Rattle.views.proofs.Steps.{answer-sound, step-refused}
+use Rattle.lines.specs.Arrays.{SoundArrays, Stepped, Freed, modeOf}
+use Rattle.views.proofs.Steps.{answer-sound, granted-by, step-refused}
 use Rattle.views.proofs.Rows.{askRow, read-requires, write-requires, read-answered, write-answered}
 use Rattle.bench.proofs.Accepts.{open-top-accepted, open-sub-accepted, read-accepted, write-accepted, commit-top-accepted, commit-sub-accepted, abort-accepted}
 
@@ -75,6 +78,25 @@ module _ {parents states reads writes : List ℕ} (pre : SoundArrays parents sta
   write-found a i owners answer both e =
       write-answered parents states reads writes true (sym (pre .isSound)) refl a i owners answer both e
 
+  -- the numbers in the sets of the modes that conflict with a read or a write of instrument i
+  abbrev pub conflictingAt : Bool → ℕ → ℕ
+  conflictingAt isWrite i = if isWrite then union (getD reads (i % 128) 0) (getD writes (i % 128) 0) else getD writes (i % 128) 0
+
+  pub ask-asks : (isWrite : Bool) (i owners : ℕ) → owners ≡ conflictingAt isWrite i → SoundTree parents states × InUse states owners
+  ask-asks true i owners e = write-asks i owners e
+  ask-asks false i owners e = rw e (read-asks i)
+
+  pub ask-found : (isWrite : Bool) (a i owners answer : ℕ) → owners ≡ conflictingAt isWrite i → answer ≡ askRow parents states owners a i → answer ≡ answerOf readWrite (view parents states reads writes) (ask (modeOf isWrite) a i)
+  ask-found true a i owners answer e found = write-found a i owners answer e found
+  ask-found false a i owners answer e found = read-found a i answer (rw e at found)
+
+  -- what an accepted commit says of its action, and an abort
+  pub commit-acts : (a answer : ℕ) → answer ≡ answerOf readWrite (view parents states reads writes) (commit a) → answer ≡ 0 → Commits readWrite (view parents states reads writes) a
+  commit-acts a answer e z = granted-by (view parents states reads writes) (commit a) answer e z .facts
+
+  pub abort-acts : (a answer : ℕ) → answer ≡ answerOf readWrite (view parents states reads writes) (abort a) → answer ≡ 0 → Aborts readWrite (view parents states reads writes) a
+  abort-acts a answer e z = granted-by (view parents states reads writes) (abort a) answer e z .facts
+
   -- ---- what a request leaves
 
   -- A request that is refused leaves the arrays as they were.
@@ -106,6 +128,13 @@ module _ {parents states reads writes : List ℕ} (pre : SoundArrays parents sta
       stepped (write a i) answer parents states reads (set writes (i % 128) s)
       (pre .parentsLong) (pre .statesLong) (pre .readsLong) (length-set writes (i % 128) s ∙ pre .writesLong)
       (write-accepted before answer a i s (pre .writesLong) stored e z)
+
+  -- An ask that is granted stores both sets of the instrument, one of them as it was.
+  pub ask-in-place : (isWrite : Bool) (a i readers writers answer : ℕ) → readers ≡ (if not isWrite then with 64 (getD reads (i % 128) 0) (a % 64) else getD reads (i % 128) 0) → writers ≡ (if isWrite then with 64 (getD writes (i % 128) 0) (a % 64) else getD writes (i % 128) 0) → answer ≡ answerOf readWrite (view parents states reads writes) (ask (modeOf isWrite) a i) → answer ≡ 0 → Stepped (some (ask (modeOf isWrite) a i)) parents states reads writes answer parents states (set reads (i % 128) readers) (set writes (i % 128) writers)
+  ask-in-place true a i readers writers answer kept stored e z =
+      rw (kept, set-getD reads (i % 128) 0) (write-in-place a i writers answer stored e z)
+  ask-in-place false a i readers writers answer stored kept e z =
+      rw (kept, set-getD writes (i % 128) 0) (read-in-place a i readers answer stored e z)
 
   pub commit-sub-in-place : (a answer : ℕ) → (getD parents (a % 64) 0 ≡ 0 → ⊥) → answer ≡ answerOf readWrite (view parents states reads writes) (commit a) → answer ≡ 0 → Stepped (some (commit a)) parents states reads writes answer parents (set states (a % 64) 2) reads writes
   commit-sub-in-place a answer sub e z =

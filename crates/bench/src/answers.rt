@@ -11,6 +11,7 @@ ghost use Rattle.rules.specs.Answers.{row, rowBy, answerOf};
 ghost use Rattle.rules.specs.ReadWrite.{readWrite, read, write};
 ghost use Rattle.views.specs.View.{view};
 ghost use Rattle.views.specs.Parts.{tree, SoundTree, InUse, ownersInLine};
+ghost use Rattle.views.specs.Index.{KnowsChild, KnowsLine};
 
 // The answer numbers.
 pub const ACCEPTED: u8 = 0;
@@ -68,8 +69,9 @@ pub(crate) fn open_sub_row(states: &[u8; 64], n: u32, p: u32) -> u8
     ACCEPTED
 }
 
-// The rows of `commit a`.
-pub(crate) fn commit_row<'a>(parents: &'a [u8; 64], states: &'a [u8; 64], a: u32) -> u8
+// The rows of `commit a`, where `busy` says whether a has a running child.
+pub(crate) fn commit_row<'a>(parents: &'a [u8; 64], states: &'a [u8; 64], busy: bool, a: u32) -> u8
+    requires { ⌜ KnowsChild (now parents) (now states) a «busy» ⌝ }
     ensures { λ r. ⌜ r ≡ row readWrite (tree (now (parents .entry)) (now (states .entry))) (commit a) ⌝ }
 {
     if 64 <= a {
@@ -78,7 +80,7 @@ pub(crate) fn commit_row<'a>(parents: &'a [u8; 64], states: &'a [u8; 64], a: u32
     if states[a as usize] != RUNNING {
         return NOT_RUNNING;
     }
-    if running_child(parents, states, (a % 64) as u8 + 1) {
+    if busy {
         return HAS_RUNNING_CHILD;
     }
     ACCEPTED
@@ -97,8 +99,37 @@ pub(crate) fn abort_row(states: &[u8; 64], a: u32) -> u8
     ACCEPTED
 }
 
-// The rows of `read a, i` and `write a, i`, where `owners` are the numbers in the sets of the conflicting modes at instrument i.
+// The rows of `read a, i` and `write a, i`, where `owners` are the numbers in the sets of the conflicting modes at instrument i, and `line` is a with its ancestors.
 pub(crate) fn ask_row<'a>(
+    parents: &'a [u8; 64],
+    states: &'a [u8; 64],
+    busy: bool,
+    line: u64,
+    owners: u64,
+    a: u32,
+    i: u32,
+) -> u8
+    requires { ⌜ SoundTree (now parents) (now states) × InUse (now states) owners × KnowsChild (now parents) (now states) a «busy» × KnowsLine (now parents) (now states) a line ⌝ }
+    ensures { λ r. ⌜ r ≡ rowBy (λ m asker at. ownersInLine (now (parents .entry)) (now (states .entry)) owners asker) readWrite (tree (now (parents .entry)) (now (states .entry))) (ask 0 a i) ⌝ }
+{
+    if 64 <= a {
+        return NO_SUCH_ACTION;
+    }
+    if 128 <= i {
+        return NO_SUCH_INSTRUMENT;
+    }
+    let first = commit_row(parents, states, busy, a);
+    if first != ACCEPTED {
+        return first;
+    }
+    if !heirs_in_line(parents, states, line, owners, a as usize) {
+        return NOT_GRANTED;
+    }
+    ACCEPTED
+}
+
+// The same, with what they have to know of a looked up in the arrays.
+fn looked_up_ask_row<'a>(
     parents: &'a [u8; 64],
     states: &'a [u8; 64],
     owners: u64,
@@ -108,20 +139,9 @@ pub(crate) fn ask_row<'a>(
     requires { ⌜ SoundTree (now parents) (now states) × InUse (now states) owners ⌝ }
     ensures { λ r. ⌜ r ≡ rowBy (λ m asker at. ownersInLine (now (parents .entry)) (now (states .entry)) owners asker) readWrite (tree (now (parents .entry)) (now (states .entry))) (ask 0 a i) ⌝ }
 {
-    if 64 <= a {
-        return NO_SUCH_ACTION;
-    }
-    if 128 <= i {
-        return NO_SUCH_INSTRUMENT;
-    }
-    let busy = commit_row(parents, states, a);
-    if busy != ACCEPTED {
-        return busy;
-    }
-    if !heirs_in_line(parents, states, owners, a as usize) {
-        return NOT_GRANTED;
-    }
-    ACCEPTED
+    let busy = running_child(parents, states, (a % 64) as u8 + 1);
+    let line = ancestry::line_of(parents, a as usize);
+    ask_row(parents, states, busy, line, owners, a, i)
 }
 
 pub(crate) fn open_top_answer<'a>(
@@ -169,7 +189,7 @@ pub(crate) fn read_answer<'a>(
         return UNSOUND;
     }
     let at = (i % 128) as usize;
-    ask_row(parents, states, writes[at], a, i)
+    looked_up_ask_row(parents, states, writes[at], a, i)
 }
 
 pub(crate) fn write_answer<'a>(
@@ -186,7 +206,7 @@ pub(crate) fn write_answer<'a>(
         return UNSOUND;
     }
     let at = (i % 128) as usize;
-    ask_row(parents, states, sets::union(reads[at], writes[at]), a, i)
+    looked_up_ask_row(parents, states, sets::union(reads[at], writes[at]), a, i)
 }
 
 pub(crate) fn commit_answer<'a>(
@@ -201,7 +221,8 @@ pub(crate) fn commit_answer<'a>(
     if !sound(parents, states, reads, writes) {
         return UNSOUND;
     }
-    commit_row(parents, states, a)
+    let busy = running_child(parents, states, (a % 64) as u8 + 1);
+    commit_row(parents, states, busy, a)
 }
 
 pub(crate) fn abort_answer<'a>(

@@ -3,8 +3,8 @@ pub mod answers;
 mod clear;
 mod ends;
 mod engine;
-mod frames;
 pub mod image;
+mod index;
 mod play;
 mod tree;
 

@@ -5,9 +5,12 @@ use crate::Player;
 use crate::answers::UNSOUND;
 use crate::ends::next_end;
 use crate::engine::MALFORMED;
-use crate::engine::request;
-use crate::frames::count_after;
-use crate::frames::value_after;
+use crate::index::children_in;
+use crate::index::lines_in;
+use crate::index::request;
+use crate::index::running_in;
+use lines::frames::count_after;
+use lines::frames::value_after;
 use soundness::sound;
 ghost use mathlib.Core.Path.{_≡_};
 ghost use Prim.Native.Nat.{_+_, _*_, _≤_, _<_};
@@ -15,7 +18,7 @@ ghost use lib.ListN.{length};
 ghost use lib.Seq.{sets};
 ghost use Rattle.digits.specs.Digits.{ValuesOfBytes};
 ghost use Rattle.lines.specs.Lines.{answerText};
-ghost use Rattle.lines.specs.Arrays.{KnownArrays, LineEnded};
+ghost use Rattle.lines.specs.Arrays.{KnownArrays, KnownIndex, LineEnded};
 ghost use Rattle.lines.specs.Feeding.{framed, feedingOf, taken, FedBytes};
 ghost use Rattle.bench.specs.Feeding.{FedAs};
 ghost use Rattle.lines.specs.NextEnds.{FedOn};
@@ -34,16 +37,30 @@ fn end_line(
     states: &mut [u8; 64],
     reads: &mut [u64; 128],
     writes: &mut [u64; 128],
+    children: &mut [u64; 64],
+    lines: &mut [u64; 64],
+    running: &mut u64,
     is_sound: bool,
     code: u8,
     x: u32,
     y: u32,
 ) -> u8
-    requires { ⌜ KnownArrays «is_sound» (now parents) (now states) (now reads) (now writes) × (code ≤ 6) ⌝ }
-    ensures { λ r. ⌜ LineEnded «is_sound» (framed code x y) (now (parents .entry)) (now (states .entry)) (now (reads .entry)) (now (writes .entry)) r (now (parents .exit)) (now (states .exit)) (now (reads .exit)) (now (writes .exit)) ⌝ }
+    requires { ⌜ KnownArrays «is_sound» (now parents) (now states) (now reads) (now writes) × KnownIndex «is_sound» (now parents) (now states) (now children) (now lines) (now running) × (code ≤ 6) ⌝ }
+    ensures { λ r. ⌜ LineEnded «is_sound» (framed code x y) (now (parents .entry)) (now (states .entry)) (now (reads .entry)) (now (writes .entry)) r (now (parents .exit)) (now (states .exit)) (now (reads .exit)) (now (writes .exit)) × KnownIndex «is_sound» (now (parents .exit)) (now (states .exit)) (now (children .exit)) (now (lines .exit)) (now (running .exit)) ⌝ }
 {
     if is_sound {
-        return request(parents, states, reads, writes, code, x, y);
+        return request(
+            parents,
+            states,
+            reads,
+            writes,
+            children,
+            lines,
+            running,
+            code,
+            x,
+            y,
+        );
     }
     if code == 0 {
         return MALFORMED;
@@ -67,14 +84,17 @@ fn feed_next(
     states: &mut [u8; 64],
     reads: &mut [u64; 128],
     writes: &mut [u64; 128],
+    children: &mut [u64; 64],
+    lines: &mut [u64; 64],
+    running: &mut u64,
     is_sound: bool,
     values: &[u8; 256],
     place: Place,
     input: &[u8],
     out: &mut [u8],
 ) -> Place
-    requires { ⌜ KnownArrays «is_sound» (now parents) (now states) (now reads) (now writes) × ValuesOfBytes (now values) × (place .at < length (now input)) × (place .written + 3 ≤ length (now out)) ⌝ }
-    ensures { λ r. ⌜ FedOn (feedingOf (now (parents .entry)) (now (states .entry)) (now (reads .entry)) (now (writes .entry)) (place .count) (place .value)) (now (input .entry)) (place .at) (r .at) (now (out .entry)) (place .written) (feedingOf (now (parents .exit)) (now (states .exit)) (now (reads .exit)) (now (writes .exit)) (r .count) (r .value)) (now (out .exit)) (r .written) × KnownArrays «is_sound» (now (parents .exit)) (now (states .exit)) (now (reads .exit)) (now (writes .exit)) ⌝ }
+    requires { ⌜ KnownArrays «is_sound» (now parents) (now states) (now reads) (now writes) × KnownIndex «is_sound» (now parents) (now states) (now children) (now lines) (now running) × ValuesOfBytes (now values) × (place .at < length (now input)) × (place .written + 3 ≤ length (now out)) ⌝ }
+    ensures { λ r. ⌜ FedOn (feedingOf (now (parents .entry)) (now (states .entry)) (now (reads .entry)) (now (writes .entry)) (place .count) (place .value)) (now (input .entry)) (place .at) (r .at) (now (out .entry)) (place .written) (feedingOf (now (parents .exit)) (now (states .exit)) (now (reads .exit)) (now (writes .exit)) (r .count) (r .value)) (now (out .exit)) (r .written) × KnownArrays «is_sound» (now (parents .exit)) (now (states .exit)) (now (reads .exit)) (now (writes .exit)) × KnownIndex «is_sound» (now (parents .exit)) (now (states .exit)) (now (children .exit)) (now (lines .exit)) (now (running .exit)) ⌝ }
 {
     let at = place.at;
     let end = next_end(values, place.count, place.value, input, at);
@@ -85,6 +105,9 @@ fn feed_next(
             states,
             reads,
             writes,
+            children,
+            lines,
+            running,
             is_sound,
             end.code,
             end.x,
@@ -114,13 +137,16 @@ fn feed_bytes(
     states: &mut [u8; 64],
     reads: &mut [u64; 128],
     writes: &mut [u64; 128],
+    children: &mut [u64; 64],
+    lines: &mut [u64; 64],
+    running: &mut u64,
     is_sound: bool,
     count: u8,
     value: u32,
     input: &[u8],
     out: &mut [u8],
 ) -> Place
-    requires { ⌜ KnownArrays «is_sound» (now parents) (now states) (now reads) (now writes) × (3 * length (now input) ≤ length (now out)) ⌝ }
+    requires { ⌜ KnownArrays «is_sound» (now parents) (now states) (now reads) (now writes) × KnownIndex «is_sound» (now parents) (now states) (now children) (now lines) (now running) × (3 * length (now input) ≤ length (now out)) ⌝ }
     ensures { λ r. ⌜ FedBytes (feedingOf (now (parents .entry)) (now (states .entry)) (now (reads .entry)) (now (writes .entry)) count value) (now (input .entry)) (now (out .entry)) 0 (feedingOf (now (parents .exit)) (now (states .exit)) (now (reads .exit)) (now (writes .exit)) (r .count) (r .value)) (now (out .exit)) (r .written) ⌝ }
 {
     let values = digits::values();
@@ -136,6 +162,9 @@ fn feed_bytes(
             states,
             reads,
             writes,
+            children,
+            lines,
+            running,
             is_sound,
             &values,
             place,
@@ -170,11 +199,22 @@ impl Player {
         let mut reads = bench.reads;
         let mut writes = bench.writes;
         let is_sound = sound(&parents, &states, &reads, &writes);
+        let mut children = [0u64; 64];
+        let mut lines = [0u64; 64];
+        let mut running = 0u64;
+        if is_sound {
+            children = children_in(&parents);
+            lines = lines_in(&parents);
+            running = running_in(&states);
+        }
         let place = feed_bytes(
             &mut parents,
             &mut states,
             &mut reads,
             &mut writes,
+            &mut children,
+            &mut lines,
+            &mut running,
             is_sound,
             self.count,
             self.value,

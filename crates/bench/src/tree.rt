@@ -1,21 +1,18 @@
-// The tree of actions, on parents and states: running children, the line of ancestors, heirs, and families. These rely on a sound bench.
+// The tree of actions, on parents and states: running children, owners in the asker's line, and families. These rely on a sound bench.
 use soundness::index::RUNNING;
 use soundness::index::wide;
 use soundness::parents_lower;
 use soundness::upper_child;
 ghost use mathlib.Core.Path.{_≡_};
 ghost use mathlib.Core.Bool.{true, false, _&&_, cond};
-ghost use mathlib.Core.Option.{some};
 ghost use Prim.Native.Nat.{ℕ, _+_, _≤_, _<_};
 ghost use lib.Dec.{eqb};
 ghost use lib.ListN.{length, getD};
 ghost use Rattle.sets.specs.Sets.{member};
 ghost use Rattle.rules.specs.Tests.{any};
-ghost use Rattle.rules.specs.Bench.{isFree, isRunning};
-ghost use Rattle.rules.specs.Owners.{heir};
-ghost use Rattle.rules.specs.ReadWrite.{readWrite};
+ghost use Rattle.rules.specs.Bench.{isRunning};
 ghost use Rattle.views.specs.View.{stateOf};
-ghost use Rattle.views.specs.Parts.{tree, SoundTree, SoundParents, InUse, ownersInLine, inLine, descends, parentIn, adopted, GrownTo, Grown};
+ghost use Rattle.views.specs.Parts.{SoundTree, SoundParents, InUse, ownersInLine, inLine, descends, parentIn, adopted, GrownTo, Grown};
 
 // Whether a number whose parent's byte is `parent` runs.
 pub(crate) fn running_child<'a>(parents: &'a [u8; 64], states: &'a [u8; 64], parent: u8) -> bool
@@ -28,51 +25,21 @@ pub(crate) fn running_child<'a>(parents: &'a [u8; 64], states: &'a [u8; 64], par
     found
 }
 
-// The asker and its ancestors, as a set.
-fn line_of(parents: &[u8; 64], a: usize) -> u64
-    requires { ⌜ SoundParents (now parents) × (a < 64) ⌝ }
-    ensures { λ r. ⌜ ((k : ℕ) → member r k ≡ inLine (now (parents .entry)) a k) ⌝ }
-{
-    let mut line = sets::with(0, a);
-    let mut up = wide(parents[a]);
-    while up != 0 {
-        let p = up - 1;
-        line = sets::with(line, p);
-        up = wide(parents[p]);
-    }
-    line
-}
-
-// The heir of a number that isn't free: the nearest running one among itself and its ancestors.
-fn heir<'a>(parents: &'a [u8; 64], states: &'a [u8; 64], k: usize) -> usize
-    requires { ⌜ SoundTree (now parents) (now states) × (k < 64) × (isFree (stateOf (getD (now states) k 0)) ≡ false) ⌝ }
-    ensures { λ r. ⌜ heir readWrite (tree (now (parents .entry)) (now (states .entry))) k ≡ some r ⌝ }
-{
-    let mut x = k;
-    while states[x] != RUNNING {
-        x = wide(parents[x]) - 1;
-    }
-    x
-}
-
-// Whether the heir of each owner is the asker or an ancestor of it.
+// Whether the heir of each owner is the asker or an ancestor of it: one of `line`.
 pub(crate) fn heirs_in_line<'a>(
     parents: &'a [u8; 64],
     states: &'a [u8; 64],
+    line: u64,
     owners: u64,
     a: usize,
 ) -> bool
-    requires { ⌜ SoundTree (now parents) (now states) × InUse (now states) owners × (a < 64) × (isRunning (stateOf (getD (now states) a 0)) ≡ true) ⌝ }
+    requires { ⌜ SoundTree (now parents) (now states) × InUse (now states) owners × (a < 64) × (isRunning (stateOf (getD (now states) a 0)) ≡ true) × ((k : ℕ) → member line k ≡ inLine (now parents) a k) ⌝ }
     ensures { λ r. ⌜ r ≡ ownersInLine (now (parents .entry)) (now (states .entry)) owners a ⌝ }
 {
-    if owners == 0 {
-        return true;
-    }
-    let line = line_of(parents, a);
     let mut rest = sets::difference(owners, line);
     while rest != 0 {
         let k = sets::least(rest);
-        let h = heir(parents, states, k);
+        let h = ancestry::heir(parents, states, k);
         if !sets::member(line, h) {
             return false;
         }

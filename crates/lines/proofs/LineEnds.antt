@@ -5,6 +5,8 @@ use mathlib.Core.List.{List}
 use mathlib.Core.Option.{Option, none, some}
 use Prim.Native.Nat.{ℕ, zero, suc, _≤_, _<_}
 use native.Mathlib.Omega.{arith}
+use borrow.Author.Tests.{eqb-true, eqb-false, eq-eqb}
+use lib.Dec.{eqb}
 use Rattle.rules.specs.Bench as rules
 use Rattle.rules.specs.Bench.{isFree, isRunning}
 use Rattle.rules.specs.Owners.{granted, hasRunningChild}
@@ -12,9 +14,12 @@ use Rattle.rules.specs.Requests.{Request, openTop, openSub, ask, commit, abort}
 use Rattle.rules.specs.Answers.{tooHigh, noInstrument, row, rowBy, answerOf, step}
 use Rattle.rules.specs.Sound.{sound}
 use Rattle.rules.specs.ReadWrite.{readWrite, read, write}
+use Rattle.rules.proofs.Tests.{by-bool, by-or, clash, or-left, or-right}
 use Rattle.views.specs.View.{view}
 use Rattle.lines.specs.Lines.{answered}
-use Rattle.lines.specs.Arrays.{SoundArrays, KnownArrays, Stepped, LineEnded}
+use Rattle.lines.specs.Arrays.{SoundArrays, KnownArrays, Stepped, LineEnded, modeOf}
+use Rattle.lines.specs.Frames.{frameAs}
+use Rattle.lines.specs.declared.frames.Frame.{Frame}
 use Rattle.lines.specs.Feeding.{framed}
 use Rattle.views.proofs.Steps.{answer-unsound, step-refused}
 
@@ -55,8 +60,8 @@ answered-small b (some r) = either-small (sound readWrite b) (row readWrite b r)
 -- ---- frames
 
 -- no request, as a frame
-pub no-request : (held : Option Request) (code x y : ℕ) → code ≡ 0 → held ≡ none → (framed code x y ≡ held) × (code ≤ 6)
-no-request held code x y z e = (rw (z, e), omega arith)
+pub no-request : (held : Option Request) (f : Frame) → f ≡ frameAs none → held ≡ none → (framed (f .code) (f .x) (f .y) ≡ held) × (f .code ≤ 6) × (f ≡ frameAs held)
+no-request held f z e = rw (z, e) (refl, omega arith, refl)
 
 pub request-of : (code x y : ℕ) → (code ≡ 0 → ⊥) → code ≤ 6 → (q : Request) × (framed code x y ≡ some q)
 request-of zero x y nonzero small = absurd (nonzero refl)
@@ -112,3 +117,23 @@ module _ {ok : Bool} {parents states reads writes : List ℕ} (known : KnownArra
         let found = request-of code x y nonzero small in
         let seven = answer-unsound b (found .0) ok (known .known) (rw t) in
         record { outcome = rw (← e, found .1) (step-refused b (found .0) 7 seven (λ z. omega arith)); arrays = known }
+
+-- Codes 3 and 4 are asks: to read, and to write.
+pub framed-ask : (code x y : ℕ) → 3 ≤ code → code < 5 → framed code x y ≡ some (ask (modeOf (eqb code 4)) x y)
+framed-ask code x y low high =
+    by-bool (eqb code 4)
+    (λ t. rw (eqb-true code 4 t))
+    (λ t. let three : code ≡ 3 = (let differs = eqb-false code 4 t in omega arith) in rw three)
+
+-- what a look for codes 3 and 4 says of the code
+pub ask-code : (code : ℕ) → (eqb code 3 || eqb code 4) ≡ true → (3 ≤ code) × (code < 5)
+ask-code code h =
+    by-or (eqb code 3) (eqb code 4) h
+    (λ t. let three = eqb-true code 3 t in (omega arith, omega arith))
+    (λ t. let four = eqb-true code 4 t in (omega arith, omega arith))
+
+pub end-code : (code : ℕ) → (eqb code 3 || eqb code 4) ≡ false → 3 ≤ code → 4 < code
+end-code code h low =
+    let no-three : code ≡ 3 → ⊥ = (λ e. clash (eqb code 3 || eqb code 4) (or-left (eqb code 3) (eqb code 4) (eq-eqb code 3 e)) h) in
+    let no-four : code ≡ 4 → ⊥ = (λ e. clash (eqb code 3 || eqb code 4) (or-right (eqb code 3) (eqb code 4) (eq-eqb code 4 e)) h) in
+    omega arith

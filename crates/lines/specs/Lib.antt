@@ -2,3 +2,4 @@ pub mod Lines
 pub mod Arrays
 pub mod Feeding
 pub mod NextEnds
+pub mod Frames

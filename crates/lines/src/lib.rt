@@ -1,1 +1,2 @@
-// A trace's lines have no code of their own: specs/ defines them, and feeding byte by byte, and proofs/ has the laws of both.
+// A trace's lines: specs/ defines them, and feeding byte by byte, and proofs/ has the laws of both. What a line that has begun writes is computed here.
+pub mod frames;

@@ -6,6 +6,7 @@
 -- Pigeonhole: a chain of parents that ends at all ends within one step less than there are numbers.
 -- Family: an action and its descendants, told from the parent's family.
 -- Accepted: what an answer 0 implies, for each request.
+-- Smallest: the smallest number of which a test holds.
 pub mod Tests
 pub mod Facts
 pub mod Walks
@@ -13,15 +14,20 @@ pub mod Chains
 pub mod Pigeonhole
 pub mod Family
 pub mod Accepted
+pub mod Smallest
 -- Theorems about the rules:
 -- Kept: every request on a sound bench leaves a sound bench.
 -- Asking: an accepted read or write enters the set, and asking again changes nothing further.
 -- SetForm: owner sets held to ancestors, and upward and downward sets, give the rule over heirs.
+-- Reasons: whom an answer names, and that answers 1 to 6 always name somebody.
+-- ReasonControls: reasons computed, and a stronger claim refuted.
 -- Sessions: document 01's sessions marked (P), answered by the step as the document answers them: one computed test.
 -- Controls: computed benches that tell the rules from wrong ones near them, and on which soundness holds and fails.
 pub mod Kept
 pub mod Asking
 pub mod SetForm
+pub mod Reasons
+pub mod ReasonControls
 pub mod Sessions
 pub mod Controls
 -- Demand 2, the plain machine:
@@ -30,12 +36,14 @@ pub mod Controls
 -- PlainAnswers: a sound bench and a plain machine that say the same give every request the same answer.
 -- PlainEffects: a sound bench and a plain machine that say the same still do after every accepted request.
 -- DemandTwo: demand 2, the bench and the plain machine of Moss's rules answer every list of requests alike.
+-- PlainReasons: whom a sound bench names the plain machine would name.
 -- DemandControls: both machines computed, and near variants of them told apart by a list of requests.
 pub mod HeirChanges
 pub mod OwnerChanges
 pub mod PlainAnswers
 pub mod PlainEffects
 pub mod DemandTwo
+pub mod PlainReasons
 pub mod DemandControls
 -- Demand 3, any merging:
 -- Mix: two benches put together by member, and what each side keeps to.

@@ -37,7 +37,7 @@ module _ (sh : Shape) (b : Bench) (s : Plain) (ok : sound sh b ≡ true) (agrees
   unfolding inFamily
   family-same a k l = rw (ancestors-same a k l)
 
-  parent-same : (a k : ℕ) → k < sh .actions → isParent a (s .ancestors k) ≡ isChild b a k
+  pub parent-same : (a k : ℕ) → k < sh .actions → isParent a (s .ancestors k) ≡ isChild b a k
   parent-same a k l =
       by-parent (b .parent k) (λ e. ap (isParent a) (top-ancestors k l e) ∙ rw e)
       (λ p e. ap (isParent a) (child-ancestors k p l e) ∙ rw e)

@@ -4,9 +4,11 @@ pub mod Owners
 pub mod Sound
 pub mod Requests
 pub mod Answers
+pub mod Reasons
 pub mod SetForm
 pub mod ReadWrite
 pub mod Sessions
 pub mod Plain
+pub mod PlainReasons
 pub mod Merging
 pub mod Agrees

@@ -9,8 +9,8 @@ use lib.Arith.{digits-mod, lt-one}
 use lib.Pow.{pow-lt, pow-mono, pow-pos}
 use lib.Bits.{bitAnd, bitOr, bitXor, differ, and-shr, or-shr, xor-shr, and-step, or-step, xor-step, or-lt, xor-lt, and-le-l, and-le-r, or-add-and, xor-add-and}
 use lib.Count.{trailingZeros, under}
-use borrow.Author.Tests.{eqb-true, eqb-false, eq-eqb, ltb-true, ltb-false, lt-ltb, le-ltb}
-use Rattle.sets.specs.Sets.{member, single, union, difference, within, with, without, least}
+use borrow.Author.Tests.{eqb-true, eqb-false, eq-eqb, ltb-true, ltb-false, lt-ltb, le-ltb, not-true, not-false}
+use Rattle.sets.specs.Sets.{member, single, union, difference, within, meet, with, without, least}
 
 -- ---- tests
 
@@ -281,6 +281,23 @@ least-first (suc w) s zero h = least-above w s zero h .0
 least-first (suc w) s (suc k) h = member-suc s k ∙ least-first w (s / 2) k (least-above w s (suc k) h .1)
 
 -- ---- the order of words
+
+-- sets that don't meet have no number in common
+pub apart-at : (s t : ℕ) → meet s t ≡ false → (k : ℕ) → (member s k && member t k) ≡ false
+unfolding meet
+apart-at s t h k =
+    sym (member-intersection s t k) ∙ rw (eqb-true (bitAnd s t) 0 (not-false (eqb (bitAnd s t) 0) h)) (member-empty k)
+
+-- and sets that meet have one
+pub meet-common : (w s t : ℕ) → s < 2 ^ w → meet s t ≡ true → (k : ℕ) × (k < w) × ((member s k && member t k) ≡ true)
+unfolding meet
+meet-common w s t fits h =
+    let some = eqb-false (bitAnd s t) 0 (not-true (eqb (bitAnd s t) 0) h) in
+    let low : bitAnd s t < 2 ^ w = (let less = and-le-l s t in omega arith) in (
+      least w (bitAnd s t),
+      least-inside w (bitAnd s t) low some,
+      sym (member-intersection s t (least w (bitAnd s t))) ∙ least-member w (bitAnd s t) low some,
+    )
 
 pub below-pow : (s : ℕ) → s < 2 ^ s
 below-pow zero = pow-pos zero

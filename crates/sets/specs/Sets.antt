@@ -1,5 +1,5 @@
 -- A set of numbers is a natural number: k is a member where its k-th binary digit is 1. A machine word of w bits is a set of numbers below w.
-use mathlib.Core.Bool.{Bool, cond}
+use mathlib.Core.Bool.{Bool, not, cond}
 use Prim.Native.Nat.{ℕ, _/_, _%_, _^_}
 use lib.Dec.{eqb, ltb}
 use lib.Bits.{bitAnd, bitOr, bitXor}
@@ -24,6 +24,10 @@ difference s t = bitXor s (bitAnd s t)
 -- every number of s is one of t
 unfoldable pub within : ℕ → ℕ → Bool
 within s t = eqb (union s t) t
+
+-- s and t have a number in common
+unfoldable pub meet : ℕ → ℕ → Bool
+meet s t = not (eqb (bitAnd s t) 0)
 
 -- s with k, in a word of w bits: k at w or above has no place in it
 unfoldable pub with : ℕ → ℕ → ℕ → ℕ

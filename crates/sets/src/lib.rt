@@ -1,6 +1,6 @@
 // Machine words of 64 bits as sets of the numbers 0 to 63.
 ghost use mathlib.Core.Path.{_≡_};
-ghost use Rattle.sets.specs.Sets.{member, union, difference, within, with, without, least};
+ghost use Rattle.sets.specs.Sets.{member, union, difference, within, meet, with, without, least};
 
 // Whether k is a member of s.
 pub fn member(s: u64, k: usize) -> bool
@@ -42,6 +42,13 @@ pub fn within(s: u64, t: u64) -> bool
     ensures { λ r. ⌜ r ≡ within s t ⌝ }
 {
     (s | t) == t
+}
+
+// Whether s and t have a number in common.
+pub fn meet(s: u64, t: u64) -> bool
+    ensures { λ r. ⌜ r ≡ meet s t ⌝ }
+{
+    s & t != 0
 }
 
 // The least member of s, and 64 where it has none.

@@ -67,11 +67,11 @@ adopted-below set k up zero l low h = h
 adopted-below set k up (suc p) l low h = adopted-new set k up p l h (λ old. old) (λ e t. absurd (omega arith))
 
 module _ (parents : List ℕ) (ok : SoundParents parents) where
-  descends-top : (a k : ℕ) → getD parents k 0 ≡ 0 → descends parents a k ≡ eqb k a
+  pub descends-top : (a k : ℕ) → getD parents k 0 ≡ 0 → descends parents a k ≡ eqb k a
   unfolding isAncestor inFamily
   descends-top a k e = family-top readWrite (tree parents (ok .0)) (ok .1) a k (rw e)
 
-  descends-child : (a k p : ℕ) → k < 64 → getD parents k 0 ≡ suc p → descends parents a k ≡ (eqb k a || descends parents a p)
+  pub descends-child : (a k p : ℕ) → k < 64 → getD parents k 0 ≡ suc p → descends parents a k ≡ (eqb k a || descends parents a p)
   unfolding isAncestor inFamily
   descends-child a k p l e = family-child readWrite (tree parents (ok .0)) (ok .1) a k p l (rw e)
 

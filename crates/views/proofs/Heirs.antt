@@ -1,25 +1,27 @@
--- Heirs found by going up from a number, and owners that are left out once their heir is known to stand in the asker's line.
+-- The nearest running number, found by going up from a number of any bytes; on a sound bench, that it is the heir; and owners that are left out once their heir is known to stand in the asker's line.
 use mathlib.Core.Path.{_≡_, refl, sym, _∙_, ap}
 use mathlib.Core.Bool.{Bool, true, false, not, _&&_}
 use mathlib.Core.List.{List}
-use mathlib.Core.Option.{some}
-use Prim.Native.Nat.{ℕ, zero, suc, _-_, _<_, _^_}
+use mathlib.Core.Option.{none, some, Option·none-ne-some}
+use Prim.Native.Nat.{ℕ, zero, suc, _-_, _<_, _%_, _^_}
+use native.Mathlib.Nat.{mod-eq-of-lt}
 use native.Mathlib.Omega.{arith}
-use borrow.Author.Tests.{eqb-true}
-use lib.Dec.{eqb}
+use borrow.Author.Tests.{eqb-true, leb-true}
+use lib.Dec.{eqb, leb}
 use lib.ListN.{getD}
 use Rattle.sets.specs.Sets.{member, difference}
 use Rattle.sets.proofs.Laws.{member-empty, member-difference, difference-fits}
-use Rattle.rules.specs.Tests.{_⇒_, all}
+use Rattle.rules.specs.Tests.{if_then_else_, _⇒_, all, from}
 use Rattle.rules.specs.Bench.{isFree, isRunning}
-use Rattle.rules.specs.Owners.{above, isAncestor, heir, isAskerOrAncestor, heirInLine}
+use Rattle.rules.specs.Owners.{above, isAncestor, nearest, heir, isAskerOrAncestor, heirInLine}
 use Rattle.rules.specs.ReadWrite.{readWrite}
-use Rattle.rules.proofs.Tests.{by-bool, by-parent, clash, by-or, same, and-left, implies, implied, refuted, all-at, all-by}
+use Rattle.rules.proofs.Tests.{by-bool, by-parent, clash, by-or, same, and-left, implies, implied, refuted, from-cong, all-at, all-by}
 use Rattle.rules.proofs.Facts.{SoundNumber, sound-facts}
-use Rattle.rules.proofs.Walks.{stepsUp, depth, depth-child, ancestor-runs, heir-runs, heir-up}
+use Rattle.rules.proofs.Walks.{ancestor-runs, heir-runs, heir-is}
 use Rattle.views.specs.View.{stateOf}
-use Rattle.views.specs.Parts.{upOf, tree, SoundTree, InUse, ownersInLine, inLine}
+use Rattle.views.specs.Parts.{upOf, tree, SoundTree, InUse, ownersInLine, inLine, knownUp, nearestFrom}
 use Rattle.views.proofs.Bytes.{parent-byte}
+use Rattle.views.proofs.Lines.{predecessor, up-known}
 use Rattle.views.proofs.Taken.{Taken}
 
 -- a byte that isn't 1 isn't that of a running number
@@ -29,17 +31,56 @@ not-running (suc zero) h = absurd (h refl)
 not-running (suc (suc zero)) h = refl
 not-running (suc (suc (suc s))) h = refl
 
--- x isn't free, and has the heir of k.
-pub record SameHeir (parents states : List ℕ) (k x : ℕ) : Type 0 where
+-- Of any bytes: the nearest running one from k is the nearest from x, within n numbers.
+pub record SameNearest (parents states : List ℕ) (k x n : ℕ) : Type 0 where
   pub known : x < 64
-  pub inUse : isFree (stateOf (getD states x 0)) ≡ false
-  pub shared : heir readWrite (tree parents states) k ≡ heir readWrite (tree parents states) x
+  pub shared : nearestFrom parents states k ≡ nearest n (λ j. stateOf (getD states j 0)) (knownUp parents) x
 
--- a step up to the parent p from x, which has the heir of k
-pub record StepUp (parents states : List ℕ) (k x p : ℕ) : Type 0 where
-  pub byte : getD parents x 0 ≡ suc p
-  pub next : SameHeir parents states k p
-  pub falls : stepsUp 64 (upOf parents) p < stepsUp 64 (upOf parents) x
+module _ (parents states : List ℕ) (k x n : ℕ) (h : SameNearest parents states k x n) where
+  -- with none left to look at there is none
+  pub nearest-none : n ≡ 0 → nearestFrom parents states k ≡ none
+  unfolding nearest
+  nearest-none e = h .shared ∙ rw e
+
+  module _ (more : n ≡ 0 → ⊥) where
+    pub nearest-here : getD states x 0 ≡ 1 → nearestFrom parents states k ≡ some x
+    unfolding nearest
+    nearest-here runs = h .shared ∙ rw (predecessor n more, runs)
+
+    -- x doesn't run, so its parent decides, where it has one
+    waiting : (getD states x 0 ≡ 1 → ⊥) → nearestFrom parents states k ≡ from (knownUp parents x) none (λ p. nearest (n - 1) (λ j. stateOf (getD states j 0)) (knownUp parents) p)
+    unfolding nearest
+    waiting waits =
+        h .shared
+        ∙ ap (λ m. nearest m (λ j. stateOf (getD states j 0)) (knownUp parents) x) (predecessor n more)
+        ∙ rw (not-running (getD states x 0) waits)
+
+    pub nearest-ends : (getD states x 0 ≡ 1 → ⊥) → knownUp parents x ≡ none → nearestFrom parents states k ≡ none
+    nearest-ends waits top = waiting waits ∙ rw top
+
+    pub nearest-turn : (getD states x 0 ≡ 1 → ⊥) → (p : ℕ) → knownUp parents x ≡ some p → p < 64 → SameNearest parents states k p (n - 1)
+    nearest-turn waits p up l = record { known = l; shared = waiting waits ∙ rw up }
+
+-- a known parent is one of the 64 numbers
+known-below : (parents : List ℕ) (x p : ℕ) → knownUp parents x ≡ some p → p < 64
+known-below parents x p e =
+    by-bool (leb (getD parents x 0) 64)
+    (λ t. let byte = parent-byte (getD parents x 0) p (rw t at e) in let fits = leb-true (getD parents x 0) 64 t in omega arith)
+    (λ t. absurd (Option·none-ne-some p (rw t at e)))
+
+-- and so is the nearest running one
+pub nearest-known : (parents states : List ℕ) (k h : ℕ) → k < 64 → nearestFrom parents states k ≡ some h → h < 64
+unfolding nearest
+nearest-known parents states k h l = within 64 k l
+  where
+    within : (n x : ℕ) → x < 64 → nearest n (λ j. stateOf (getD states j 0)) (knownUp parents) x ≡ some h → h < 64
+    within zero x lx e = absurd (Option·none-ne-some h e)
+    within (suc n) x lx e =
+        by-bool (isRunning (stateOf (getD states x 0)))
+        (λ t. let q : x ≡ h = (let here : some x ≡ some h = rw t at e in cc) in omega arith)
+        (λ t.
+        by-parent (knownUp parents x) (λ top. absurd (Option·none-ne-some h (rw (t, top) at e)))
+        (λ p up. within n p (known-below parents x p up) (rw (t, up) at e)))
 
 module _ (parents states : List ℕ) (ok : SoundTree parents states) where
   facts : (k : ℕ) → k < 64 → SoundNumber readWrite (tree parents states) k
@@ -47,35 +88,25 @@ module _ (parents states : List ℕ) (ok : SoundTree parents states) where
 
   -- ---- the heir of k
 
-  -- a number that neither runs nor is free has a parent, with the same heir
-  step-up : (k x : ℕ) → (getD states x 0 ≡ 1 → ⊥) → SameHeir parents states k x → (p : ℕ) × StepUp parents states k x p
-  unfolding depth
-  step-up k x waits h =
-      by-parent (upOf parents x) (λ e. clash (isRunning (stateOf (getD states x 0))) (facts x (h .known) .topRuns (h .inUse) e) waiting)
-      (λ p e. (
-        p,
-        record {
-          byte = parent-byte (getD parents x 0) p e;
-          next = record {
-            known = facts x (h .known) .parentKnown p e;
-            inUse = facts x (h .known) .parentInUse p e;
-            shared = h .shared ∙ heir-up readWrite (tree parents states) ok x p (h .known) waiting e;
-          };
-          falls = let d = depth-child readWrite (tree parents states) ok x p (h .known) e in omega arith;
-        },
-      ))
+  -- on a sound bench the nearest running one is the heir
+  pub nearest-heir : (k : ℕ) → k < 64 → nearestFrom parents states k ≡ heir readWrite (tree parents states) k
+  unfolding heir nearest
+  nearest-heir k l = within 64 k l
     where
-      waiting : isRunning (stateOf (getD states x 0)) ≡ false
-      waiting = not-running (getD states x 0) waits
+      within : (n x : ℕ) → x < 64 → nearest n (λ j. stateOf (getD states j 0)) (knownUp parents) x ≡ nearest n (λ j. stateOf (getD states j 0)) (upOf parents) x
+      within zero x lx = refl
+      within (suc n) x lx =
+          rw (up-known parents (states, ok) x lx)
+          (ap (λ o. if isRunning (stateOf (getD states x 0)) then some x else o)
+          (from-cong (upOf parents x) none (λ p o. o) (nearest n (λ j. stateOf (getD states j 0)) (knownUp parents)) (nearest n (λ j. stateOf (getD states j 0)) (upOf parents))
+          (λ p e. within n p (facts x lx .parentKnown p e))))
 
-  pub heir-turn : (k x : ℕ) → (getD states x 0 ≡ 1 → ⊥) → SameHeir parents states k x → StepUp parents states k x (getD parents x 0 - 1)
-  heir-turn k x waits h =
-      let found = step-up k x waits h in
-      let e : found .0 ≡ getD parents x 0 - 1 = (let byte = found .1 .byte in omega arith) in
-      rw e at (found .1)
-
-  pub heir-end : (k x : ℕ) → getD states x 0 ≡ 1 → SameHeir parents states k x → heir readWrite (tree parents states) k ≡ some x
-  heir-end k x runs h = h .shared ∙ heir-runs readWrite (tree parents states) ok x (h .known) (rw runs)
+  -- a number that isn't free has one, so that it is what the climb found
+  pub heir-found : (k h : ℕ) → k < 64 → isFree (stateOf (getD states k 0)) ≡ false → h ≡ from (nearestFrom parents states (k % 64)) 64 (λ x. x) → heir readWrite (tree parents states) k ≡ some h
+  heir-found k h l used e =
+      let found = heir-is readWrite (tree parents states) ok k l used in
+      found .1 .is
+      ∙ ap some (sym (e ∙ rw (mod-eq-of-lt l, nearest-heir k l, found .1 .is)))
 
   -- ---- owners
 

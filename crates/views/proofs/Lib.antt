@@ -25,9 +25,13 @@ pub mod SoundParts
 -- Families: a set grown by children until it is a family.
 -- Adopting: a number taken into a set where its parent is in it, by shifts.
 -- Cleared: arrays and sets that the numbers of a family have left.
+-- Kin: sets of children, lines, running numbers and families, gathered by loops.
+-- Indexing: the sets of children, lines and running numbers beside the arrays, after each request.
 pub mod Taken
 pub mod Lines
 pub mod Heirs
 pub mod Families
 pub mod Adopting
 pub mod Cleared
+pub mod Kin
+pub mod Indexing

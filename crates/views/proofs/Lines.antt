@@ -1,41 +1,84 @@
--- Going up from a number by parents' bytes: the line of a number, gathered from the number upward, and how many steps are left.
+-- Going up from a number by parents' bytes, of any bytes: the line of a number, gathered from the number upward; and on a sound bench, that it is the
+-- asker and its ancestors.
 use mathlib.Core.Path.{_≡_, refl, sym, _∙_, ap}
 use mathlib.Core.Bool.{Bool, false, _||_, or-false, or-assoc}
 use mathlib.Core.List.{List}
-use Prim.Native.Nat.{ℕ, zero, suc, _-_, _≤_, _<_}
+use mathlib.Core.Option.{none, some}
+use Prim.Native.Nat.{ℕ, zero, suc, _-_, _%_, _≤_, _<_}
+use native.Mathlib.Nat.{mod-eq-of-lt}
 use native.Mathlib.Omega.{arith}
-use borrow.Author.Tests.{eqb-true, eq-eqb}
+use borrow.Author.Tests.{le-leb, lt-leb}
 use lib.Dec.{eqb}
 use lib.ListN.{getD}
 use Rattle.sets.specs.Sets.{member, with}
 use Rattle.sets.proofs.Laws.{member-empty, member-with}
-use Rattle.rules.specs.Owners.{above, isAncestor}
+use Rattle.rules.specs.Owners.{above}
 use Rattle.rules.specs.ReadWrite.{readWrite}
-use Rattle.rules.proofs.Tests.{same}
+use Rattle.rules.proofs.Tests.{from-cong}
 use Rattle.rules.proofs.Facts.{sound-facts}
-use Rattle.rules.proofs.Walks.{stepsUp, depth, depth-child, ancestor-none, ancestor-up}
-use Rattle.views.specs.Parts.{upOf, tree, SoundParents, inLine}
+use Rattle.rules.proofs.SetForm.{eqb-comm}
+use Rattle.views.specs.View.{parentOf}
+use Rattle.views.specs.Parts.{upOf, tree, SoundParents, inLine, knownUp, metFrom}
 
--- k is the number that a parent's byte names, or an ancestor of that
-abbrev pub lineFrom : List ℕ → ℕ → ℕ → Bool
-lineFrom parents zero k = false
-lineFrom parents (suc p) k = inLine parents p k
+pub predecessor : (n : ℕ) → (n ≡ 0 → ⊥) → n ≡ suc (n - 1)
+predecessor n h = omega arith
 
--- how many numbers there are in the line of a parent's byte
-abbrev pub stepsFrom : List ℕ → ℕ → ℕ
-stepsFrom parents zero = 0
-stepsFrom parents (suc p) = suc (stepsUp 64 (upOf parents) p)
+module _ (parents : List ℕ) where
+  -- ---- what a byte names
 
--- A set and what is left of the line from a parent's byte are together the line of a.
-pub record Lined (parents : List ℕ) (a line up : ℕ) : Type 0 where
-  pub known : up ≤ 64
-  pub together : (k : ℕ) → (member line k || lineFrom parents up k) ≡ inLine parents a k
+  pub no-parent : (x : ℕ) → getD parents x 0 ≡ 0 → knownUp parents x ≡ none
+  no-parent x e = rw e
 
-eqb-sym : (m n : ℕ) → eqb m n ≡ eqb n m
-eqb-sym m n = same (eqb m n) (eqb n m) (λ h. eq-eqb n m (sym (eqb-true m n h))) (λ h. eq-eqb m n (sym (eqb-true n m h)))
+  pub unknown-parent : (x : ℕ) → 64 < getD parents x 0 → knownUp parents x ≡ none
+  unknown-parent x h = rw (lt-leb (getD parents x 0) 64 h)
 
-byte-predecessor : (up : ℕ) → (up ≡ 0 → ⊥) → up ≡ suc (up - 1)
-byte-predecessor up h = omega arith
+  pub known-parent : (x : ℕ) → (getD parents x 0 ≡ 0 → ⊥) → getD parents x 0 ≤ 64 → knownUp parents x ≡ some (getD parents x 0 - 1)
+  known-parent x more h = rw (le-leb (getD parents x 0) 64 h) (ap parentOf (predecessor (getD parents x 0) more))
+
+  -- ---- the line of a, gathered
+
+  -- k is x or is met going up from it, within n numbers
+  abbrev metWithin : ℕ → ℕ → ℕ → Bool
+  metWithin zero x k = false
+  metWithin (suc n) x k = eqb k x || above n (knownUp parents) k x
+
+  -- A set and what is left to meet from x on, within n numbers, are together the line of a.
+  pub record Lined (a line x n : ℕ) : Type 0 where
+    pub known : x < 64
+    pub together : (k : ℕ) → (member line k || metWithin n x k) ≡ metFrom parents a k
+
+  pub line-start : (a : ℕ) → a < 64 → Lined a 0 a 65
+  line-start a l = record { known = l; together = λ k. rw (member-empty k) }
+
+  module _ (a line x n : ℕ) (more : n ≡ 0 → ⊥) (h : Lined a line x n) where
+    -- x has joined the set, and the numbers above it are left
+    joined : (k : ℕ) → (member (with 64 line x) k || above (n - 1) (knownUp parents) k x) ≡ metFrom parents a k
+    joined k =
+        rw (member-with 64 line x k (h .known))
+        (or-assoc (member line k) (eqb k x) (above (n - 1) (knownUp parents) k x)
+        ∙ sym (ap (λ m. member line k || metWithin m x k) (predecessor n more))
+        ∙ h .together k)
+
+    pub line-ends : knownUp parents x ≡ none → (k : ℕ) → member (with 64 line x) k ≡ metFrom parents a k
+    unfolding above
+    line-ends top k = sym (or-false (member (with 64 line x) k)) ∙ sym (ap (λ t. member (with 64 line x) k || t) (none-above (n - 1))) ∙ joined k
+      where
+        none-above : (m : ℕ) → above m (knownUp parents) k x ≡ false
+        none-above zero = refl
+        none-above (suc m) = rw top
+
+    pub line-turn : (p : ℕ) → knownUp parents x ≡ some p → p < 64 → Lined a (with 64 line x) p (n - 1)
+    unfolding above
+    line-turn p up l = record { known = l; together = λ k. sym (ap (λ t. member (with 64 line x) k || t) (from-parent (n - 1) k)) ∙ joined k }
+      where
+        from-parent : (m k : ℕ) → above m (knownUp parents) k x ≡ metWithin m p k
+        from-parent zero k = refl
+        from-parent (suc m) k = rw (up, eqb-comm p k)
+
+  pub line-end : (a line x n : ℕ) → n ≡ 0 → Lined a line x n → (k : ℕ) → member line k ≡ metFrom parents a k
+  line-end a line x n e h k = sym (or-false (member line k)) ∙ sym (ap (λ m. member line k || metWithin m x k) e) ∙ h .together k
+
+-- ---- on a sound bench
 
 module _ (parents : List ℕ) (ok : SoundParents parents) where
   -- a parent's byte is 0 or one more than a number
@@ -46,54 +89,22 @@ module _ (parents : List ℕ) (ok : SoundParents parents) where
       by-byte zero e = omega arith
       by-byte (suc p) e = sound-facts readWrite (tree parents (ok .0)) (ok .1) x l .parentKnown p (rw e)
 
-  -- the ancestors of a number are the line of its parent's byte
-  line-up : (x k : ℕ) → x < 64 → above 64 (upOf parents) k x ≡ lineFrom parents (getD parents x 0) k
-  unfolding isAncestor
-  line-up x k l = by-byte (getD parents x 0) refl
+  -- so every number's parent is a known one
+  pub up-known : (x : ℕ) → x < 64 → knownUp parents x ≡ upOf parents x
+  up-known x l = rw (le-leb (getD parents x 0) 64 (parent-known x l))
+
+  -- what is met going up from a is a or one of its ancestors
+  pub met-in-line : (a : ℕ) → a < 64 → (k : ℕ) → metFrom parents a k ≡ inLine parents a k
+  unfolding above
+  met-in-line a l k = ap (λ t. eqb k a || t) (within 64 a l)
     where
-      by-byte : (up : ℕ) → getD parents x 0 ≡ up → above 64 (upOf parents) k x ≡ lineFrom parents up k
-      by-byte zero e = ancestor-none readWrite (tree parents (ok .0)) (ok .1) k x (rw e)
-      by-byte (suc p) e =
-          ancestor-up readWrite (tree parents (ok .0)) (ok .1) k x p l (rw e)
-          ∙ rw (eqb-sym p k)
+      within : (n x : ℕ) → x < 64 → above n (knownUp parents) k x ≡ above n (upOf parents) k x
+      within zero x lx = refl
+      within (suc n) x lx =
+          rw (up-known x lx)
+          (from-cong (upOf parents x) false (λ p t. eqb p k || t) (above n (knownUp parents) k) (above n (upOf parents) k)
+          (λ p e. within n p (sound-facts readWrite (tree parents (ok .0)) (ok .1) x lx .parentKnown p e)))
 
-  -- so there are as many steps up as there are numbers in that line
-  steps-up : (x : ℕ) → x < 64 → stepsUp 64 (upOf parents) x ≡ stepsFrom parents (getD parents x 0)
-  unfolding depth stepsUp
-  steps-up x l = by-byte (getD parents x 0) refl
-    where
-      by-byte : (up : ℕ) → getD parents x 0 ≡ up → stepsUp 64 (upOf parents) x ≡ stepsFrom parents up
-      by-byte zero e = rw e
-      by-byte (suc p) e = depth-child readWrite (tree parents (ok .0)) (ok .1) x p l (rw e)
-
-  -- ---- the line of a, gathered
-
-  pub line-start : (a : ℕ) → a < 64 → Lined parents a (with 64 0 a) (getD parents a 0)
-  line-start a l =
-      record {
-        known = parent-known a l;
-        together = λ k. rw (member-with 64 0 a k l, member-empty k, line-up a k l);
-      }
-
-  pub line-turn : (a line up : ℕ) → (up ≡ 0 → ⊥) → Lined parents a line up → Lined parents a (with 64 line (up - 1)) (getD parents (up - 1) 0)
-  line-turn a line up more h =
-      let e = byte-predecessor up more in
-      let l : up - 1 < 64 = (let known = h .known in omega arith) in
-      record {
-        known = parent-known (up - 1) l;
-        together = λ k.
-            rw (member-with 64 line (up - 1) k l, ← line-up (up - 1) k l)
-            (or-assoc (member line k) (eqb k (up - 1)) (above 64 (upOf parents) k (up - 1))
-            ∙ sym (ap (λ u. member line k || lineFrom parents u k) e)
-            ∙ h .together k);
-      }
-
-  pub line-falls : (up : ℕ) → (up ≡ 0 → ⊥) → up ≤ 64 → stepsFrom parents (getD parents (up - 1) 0) < stepsFrom parents up
-  line-falls up more known =
-      let e = ap (stepsFrom parents) (byte-predecessor up more) in
-      let l : up - 1 < 64 = omega arith in
-      let d = steps-up (up - 1) l in
-      omega arith
-
-pub line-end : (parents : List ℕ) (a line up : ℕ) → up ≡ 0 → Lined parents a line up → (k : ℕ) → member line k ≡ inLine parents a k
-line-end parents a line up e h k = sym (or-false (member line k)) ∙ sym (ap (λ u. member line k || lineFrom parents u k) e) ∙ h .together k
+  -- so a climb from a number gathers its line
+  pub climbed-line : (a line : ℕ) → ((k : ℕ) → member line k ≡ metFrom parents (a % 64) k) → a < 64 → (k : ℕ) → member line k ≡ inLine parents a k
+  climbed-line a line climbed l k = climbed k ∙ rw (mod-eq-of-lt l) (met-in-line a l k)

@@ -22,6 +22,7 @@ use Rattle.rules.proofs.Tests.{by-bool}
 use Rattle.rules.proofs.Accepted.{Commits, accepted}
 use Rattle.views.specs.View.{view}
 use Rattle.views.specs.Parts.{tree, SoundTree, InUse, ownersInLine}
+use Rattle.views.specs.Index.{KnowsChild}
 use Rattle.views.proofs.ViewLaws.{running-byte, running-child-found, granted-reading, granted-writing, tree-sound, sets-in-use, union-in-use}
 use Rattle.views.proofs.Steps.{answer-sound}
 
@@ -34,10 +35,13 @@ open-sub-last states n p runs hn hp free e =
     rw (lt-leb 64 n hn, lt-leb 64 p hp, free, running-byte (getD states p 0), e) (by-bool runs (λ t. rw t) (λ t. rw t))
 
 -- a is known and runs: `child` is whether it has a running child, as `found`
-pub commit-last : (parents states : List ℕ) (a : ℕ) (found child : Bool) → a < 64 → getD states a 0 ≡ 1 → found ≡ any 64 (λ k. eqb (getD states k 0) 1 && eqb (getD parents k 0) (a % 64 + 1)) → found ≡ child → (if child then 5 else 0) ≡ row readWrite (tree parents states) (commit a)
+pub commit-last : (parents states : List ℕ) (a : ℕ) (found child : Bool) → a < 64 → getD states a 0 ≡ 1 → KnowsChild parents states a found → found ≡ child → (if child then 5 else 0) ≡ row readWrite (tree parents states) (commit a)
 unfolding rowBy
-commit-last parents states a found child h runs e t =
-    rw (lt-leb 64 a h, runs, running-child-found parents states [] [] a found h e, t)
+commit-last parents states a found child h runs knows t = rw (lt-leb 64 a h, runs, ← knows h runs, t)
+
+-- A look through the arrays for a running child of a tells it.
+pub looked-for-child : (parents states : List ℕ) (a : ℕ) (found : Bool) → found ≡ any 64 (λ k. eqb (getD states k 0) 1 && eqb (getD parents k 0) (a % 64 + 1)) → KnowsChild parents states a found
+looked-for-child parents states a found e h runs = sym (running-child-found parents states [] [] a found h e)
 
 -- ---- ask
 

@@ -32,7 +32,7 @@ store-shown f l n v k h =
     (λ t. rw t (ap f (getD-set-other l n k v 0 (eqb-false k n t))))
 
 -- one number more in one set
-with-shown : (l : List ℕ) (a i at k : ℕ) → a < 64 → i < length l → member (getD (set l i (with 64 (getD l i 0) a)) at 0) k ≡ (member (getD l at 0) k || (eqb at i && eqb k a))
+pub with-shown : (l : List ℕ) (a i at k : ℕ) → a < 64 → i < length l → member (getD (set l i (with 64 (getD l i 0) a)) at 0) k ≡ (member (getD l at 0) k || (eqb at i && eqb k a))
 with-shown l a i at k la li =
     store-shown (λ s. member s k) l i (with 64 (getD l i 0) a) at li
     ∙ by-bool (eqb at i)
@@ -41,7 +41,7 @@ with-shown l a i at k la li =
 
 -- ---- an empty record
 
-zeros : (n k : ℕ) → _≡_ {A = ℕ} (getD (replicate n 0) k 0) 0
+pub zeros : (n k : ℕ) → _≡_ {A = ℕ} (getD (replicate n 0) k 0) 0
 zeros zero k = refl
 zeros (suc n) zero = refl
 zeros (suc n) (suc k) = zeros n k

@@ -5,6 +5,7 @@ use mathlib.Core.List.{List, []}
 use Prim.Native.Nat.{ℕ, zero, suc, _+_, _%_, _<_}
 use native.Mathlib.Nat.{mod-eq-of-lt}
 use native.Mathlib.Numerals.{add-one}
+use borrow.Author.Tests.{eqb-true}
 use lib.Dec.{eqb, eqb·suc-suc, eqb·suc-zero, eqb·zero-suc}
 use lib.ListN.{getD}
 use Rattle.sets.specs.Sets.{member, union}
@@ -32,6 +33,10 @@ running-byte zero = refl
 running-byte (suc zero) = refl
 running-byte (suc (suc zero)) = refl
 running-byte (suc (suc (suc n))) = sym (eqb·suc-suc (suc (suc n)) 0 ∙ eqb·suc-zero (suc n))
+
+-- so the byte of a running number is 1
+pub runs-byte : (s : ℕ) → isRunning (stateOf s) ≡ true → s ≡ 1
+runs-byte s h = eqb-true s 1 (sym (running-byte s) ∙ h)
 
 pub committed-byte : (s : ℕ) → isCommitted (stateOf s) ≡ eqb s 2
 committed-byte zero = refl

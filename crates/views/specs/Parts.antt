@@ -1,7 +1,7 @@
 -- What the parts of the soundness test and of the requests compute, over the arrays alone.
 use mathlib.Core.Bool.{Bool, true, false, not, _&&_, _||_}
 use mathlib.Core.List.{List, [], _∷_}
-use mathlib.Core.Option.{Option}
+use mathlib.Core.Option.{Option, none}
 use mathlib.Core.Path.{_≡_}
 use Prim.Native.Nat.{ℕ, zero, suc, _+_, _≤_, _<_}
 use lib.Bits.{bitAnd}
@@ -11,7 +11,7 @@ use Rattle.sets.specs.Sets.{member, with}
 use Rattle.rules.specs.Tests.{if_then_else_, _⇒_, all, any}
 use Rattle.rules.specs.Bench as rules
 use Rattle.rules.specs.Bench.{isFree}
-use Rattle.rules.specs.Owners.{above, heirInLine}
+use Rattle.rules.specs.Owners.{above, nearest, heirInLine}
 use Rattle.rules.specs.Sound.{sound}
 use Rattle.rules.specs.ReadWrite.{readWrite}
 use Rattle.views.specs.View.{view, stateOf, parentOf}
@@ -89,6 +89,18 @@ ownersInLine parents states owners a = ofMembers 64 owners (heirInLine readWrite
 -- k is the asker or one of its ancestors
 abbrev pub inLine : List ℕ → ℕ → ℕ → Bool
 inLine parents a k = eqb k a || above 64 (upOf parents) k a
+
+-- The parent of k where its byte names one of the 64 numbers; any other byte names none.
+abbrev pub knownUp : List ℕ → ℕ → Option ℕ
+knownUp parents k = if leb (getD parents k 0) 64 then upOf parents k else none
+
+-- k is a, or is met going up from it by such parents, within 64 steps
+abbrev pub metFrom : List ℕ → ℕ → ℕ → Bool
+metFrom parents a k = eqb k a || above 64 (knownUp parents) k a
+
+-- the nearest running one among k and what is met going up from it by such parents, within 64 numbers
+abbrev pub nearestFrom : List ℕ → List ℕ → ℕ → Option ℕ
+nearestFrom parents states k = nearest 64 (λ j. stateOf (getD states j 0)) (knownUp parents) k
 
 -- k is a or one of its descendants
 abbrev pub descends : List ℕ → ℕ → ℕ → Bool

@@ -1,11 +1,12 @@
--- `commit_answer` meets its contract: 7 where the soundness test fails, and else the row. Assumes nothing.
+-- `commit_answer` meets its contract: 7 where the soundness test fails, and else the row of parents and states. Assumes nothing.
 use mathlib.Core.Path.{_∙_}
 use borrow.Author.Needs.{needs}
-use Rattle.rules.specs.Owners.{hasRunningChild}
 use Rattle.rules.specs.Requests.{commit}
+use Rattle.rules.specs.Owners.{hasRunningChild}
 use Rattle.rules.specs.Answers.{rowBy}
 use Rattle.views.specs.View.{view}
 use Rattle.views.proofs.Steps.{answer-unsound, answer-sound}
+use Rattle.views.proofs.Rows.{looked-for-child}
 use Rattle.bench.proofs.answers.commit_answer.Statement.{statement}
 use Rattle.bench.proofs.answers.commit_answer.Tie as tie
 
@@ -18,16 +19,37 @@ returns c =
     answer-unsound (view (args .parents .now) (args .states .now) (args .reads .now) (args .writes .now))
     (commit (args .a)) (c .before .sound .result) (c .before .sound .ensures) (c .if1 .taken)
 
+cast-running-child : tie.Need-cast-running-child
+cast-running-child c = search needs
+
+add-running-child : tie.Need-add-running-child
+add-running-child c = search needs
+
+running-child-requires : tie.Need-running-child-requires
+running-child-requires c κs = search needs
+
 commit-row-requires : tie.Need-commit-row-requires
-commit-row-requires c κs = search needs
+commit-row-requires c κs =
+    let args = c .before .before .before .args in
+    looked-for-child (args .parents .now) (args .states .now) (args .a) (c .running-child .result) (c .running-child .ensures)
 
 returns-2 : tie.Need-returns-2
 unfolding rowBy hasRunningChild
 returns-2 c =
-    let sound = c .before .before .sound in
-    let args = c .before .before .before .args in
-    c .commit-row .ensures ∙ answer-sound (view (args .parents .now) (args .states .now) (args .reads .now) (args .writes .now))
-    (commit (args .a)) (sound .result) (sound .ensures) (c .before .if1 .left)
+    let asked = c .before .before in
+    let sound = asked .before .sound in
+    let args = asked .before .before .args in
+    c .commit-row .ensures
+    ∙ answer-sound (view (args .parents .now) (args .states .now) (args .reads .now) (args .writes .now)) (commit (args .a)) (sound .result) (sound .ensures) (asked .if1 .left)
 
 pub commit-answer-spec : {M : Type 1} → statement M
-commit-answer-spec = tie.close (tie.spec sound-requires returns commit-row-requires returns-2)
+commit-answer-spec =
+    tie.close
+    (tie.spec
+    sound-requires
+    returns
+    cast-running-child
+    add-running-child
+    running-child-requires
+    commit-row-requires
+    returns-2)

@@ -23,42 +23,24 @@ returns-2 c =
     let state = getD (s .args .states .now) (s .args .a) 0 in
     rw (lt-leb 64 (s .args .a) (c .before .before .if1 .left), running-byte state, ne-eqb state 1 (c .if2 .taken))
 
-cast-running-child : tie.Need-cast-running-child
-cast-running-child c = search needs
-
-add-running-child : tie.Need-add-running-child
-add-running-child c = search needs
-
-running-child-requires : tie.Need-running-child-requires
-running-child-requires c κs = search needs
-
 returns-3 : tie.Need-returns-3
 returns-3 c =
-    let runs = c .before .before in
+    let runs = c .before in
     let known = runs .before .before in
-    let args = known .before .args in
-    let child = c .before .running-child in
-    commit-last (args .parents .now) (args .states .now) (args .a) (child .result) true
-    (known .if1 .left) (runs .if2 .left) (child .ensures) (c .if3 .taken)
+    let s = known .before in
+    let args = s .args in
+    commit-last (args .parents .now) (args .states .now) (args .a) (args .busy) true
+    (known .if1 .left) (runs .if2 .left) (s .pre) (c .if3 .taken)
 
 returns-4 : tie.Need-returns-4
 returns-4 c =
-    let runs = c .before .before in
+    let runs = c .before in
     let known = runs .before .before in
-    let args = known .before .args in
-    let child = c .before .running-child in
-    commit-last (args .parents .now) (args .states .now) (args .a) (child .result) false
-    (known .if1 .left) (runs .if2 .left) (child .ensures) (c .if3 .left)
+    let s = known .before in
+    let args = s .args in
+    commit-last (args .parents .now) (args .states .now) (args .a) (args .busy) false
+    (known .if1 .left) (runs .if2 .left) (s .pre) (c .if3 .left)
 
 pub commit-row-spec : {M : Type 1} → statement M
 commit-row-spec =
-    tie.close
-    (tie.spec
-    returns
-    element-copy-out-if2
-    returns-2
-    cast-running-child
-    add-running-child
-    running-child-requires
-    returns-3
-    returns-4)
+    tie.close (tie.spec returns element-copy-out-if2 returns-2 returns-3 returns-4)

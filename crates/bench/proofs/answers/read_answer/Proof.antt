@@ -19,14 +19,14 @@ returns c =
 cast-at : tie.Need-cast-at
 cast-at c = search needs
 
-mul-ask-row : tie.Need-mul-ask-row
-mul-ask-row c = search needs
+mul-looked-up-ask-row : tie.Need-mul-looked-up-ask-row
+mul-looked-up-ask-row c = search needs
 
-element-copy-out-ask-row : tie.Need-element-copy-out-ask-row
-element-copy-out-ask-row c = search needs
+element-copy-out-looked-up-ask-row : tie.Need-element-copy-out-looked-up-ask-row
+element-copy-out-looked-up-ask-row c = search needs
 
-ask-row-requires : tie.Need-ask-row-requires
-ask-row-requires c κs =
+looked-up-ask-row-requires : tie.Need-looked-up-ask-row-requires
+looked-up-ask-row-requires c κs =
     let asked = c .before in
     let sound = asked .before .sound in
     let args = asked .before .before .args in
@@ -39,7 +39,7 @@ returns-2 c =
     let sound = asked .before .sound in
     let args = asked .before .before .args in
     read-answered (args .parents .now) (args .states .now) (args .reads .now) (args .writes .now) (sound .result)
-    (sound .ensures) (asked .if1 .left) (args .a) (args .i) (c .ask-row .result) (c .ask-row .ensures)
+    (sound .ensures) (asked .if1 .left) (args .a) (args .i) (c .looked-up-ask-row .result) (c .looked-up-ask-row .ensures)
 
 pub read-answer-spec : {M : Type 1} → statement M
 read-answer-spec =
@@ -48,7 +48,7 @@ read-answer-spec =
     sound-requires
     returns
     cast-at
-    mul-ask-row
-    element-copy-out-ask-row
-    ask-row-requires
+    mul-looked-up-ask-row
+    element-copy-out-looked-up-ask-row
+    looked-up-ask-row-requires
     returns-2)

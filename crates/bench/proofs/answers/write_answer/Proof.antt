@@ -34,8 +34,8 @@ element-copy-out-union-2 c = search needs
 union-requires : tie.Need-union-requires
 union-requires c κs = search needs
 
-ask-row-requires : tie.Need-ask-row-requires
-ask-row-requires c κs =
+looked-up-ask-row-requires : tie.Need-looked-up-ask-row-requires
+looked-up-ask-row-requires c κs =
     let asked = c .before .before .before in
     let sound = asked .before .sound in
     let args = asked .before .before .args in
@@ -48,7 +48,7 @@ returns-2 c =
     let sound = asked .before .sound in
     let args = asked .before .before .args in
     write-answered (args .parents .now) (args .states .now) (args .reads .now) (args .writes .now) (sound .result) (sound .ensures)
-    (asked .if1 .left) (args .a) (args .i) (c .before .union .result) (c .ask-row .result) (c .before .union .ensures) (c .ask-row .ensures)
+    (asked .if1 .left) (args .a) (args .i) (c .before .union .result) (c .looked-up-ask-row .result) (c .before .union .ensures) (c .looked-up-ask-row .ensures)
 
 pub write-answer-spec : {M : Type 1} → statement M
 write-answer-spec =
@@ -62,5 +62,5 @@ write-answer-spec =
     mul-union-2
     element-copy-out-union-2
     union-requires
-    ask-row-requires
+    looked-up-ask-row-requires
     returns-2)

@@ -1,17 +1,9 @@
--- `free_family` meets its contract: the set that `family` gathers is that of a's family, and its numbers have left all four arrays. Assumes nothing.
+-- `free_family` meets its contract: the numbers of the set, which are a's family, have left all four arrays. Assumes nothing.
 use mathlib.Core.Path.{_∙_}
 use borrow.Author.Needs.{needs}
 use Rattle.views.proofs.Stores.{family-left}
-use Rattle.views.proofs.ViewLaws.{parents-sound}
 use Rattle.bench.proofs.engine.free_family.Statement.{statement}
 use Rattle.bench.proofs.engine.free_family.Tie as tie
-
-family-requires : tie.Need-family-requires
-family-requires c κs =
-    let s = c .before in
-    let args = s .args in
-    let pre = s .pre .0 in
-    (parents-sound (args .parents .now) (args .states .now) (args .reads .now) (args .writes .now) (pre .isSound), s .pre .1, pre .parentsLong)
 
 clear-bytes-requires : tie.Need-clear-bytes-requires
 clear-bytes-requires c κs = search needs
@@ -20,23 +12,22 @@ clear-bytes-requires-2 : tie.Need-clear-bytes-requires-2
 clear-bytes-requires-2 c κs = search needs
 
 clear-sets-requires : tie.Need-clear-sets-requires
-clear-sets-requires c κs = c .before .before .before .before .before .before .before .pre .0 .readsLong
+clear-sets-requires c κs = c .before .before .before .before .before .pre .0 .readsLong
 
 clear-sets-requires-2 : tie.Need-clear-sets-requires-2
-clear-sets-requires-2 c κs = c .before .before .before .before .before .before .before .before .before .pre .0 .writesLong
+clear-sets-requires-2 c κs = c .before .before .before .before .before .before .before .pre .0 .writesLong
 
 returns : tie.Need-returns
 returns c =
     let reads = c .before .before in
     let states = reads .before .before in
     let parents = states .before .before in
-    let gathered = parents .before .before in
-    let s = gathered .before .before in
+    let s = parents .before .before in
     let args = s .args in
     let pre = s .pre .0 in
     record {
       left = family-left (args .parents .now) (args .states .now) (args .reads .now) (args .writes .now)
-          (parents .clear-bytes .last .0) (states .clear-bytes2 .last .0) (reads .clear-sets .last .0) (c .clear-sets2 .last .0) (args .a) (gathered .family .result) (gathered .family .ensures)
+          (parents .clear-bytes .last .0) (states .clear-bytes2 .last .0) (reads .clear-sets .last .0) (c .clear-sets2 .last .0) (args .a) (args .gone) (s .pre .1)
           (record {
             parentsKept = parents .clear-bytes .ensures .each;
             statesKept = states .clear-bytes2 .ensures .each;
@@ -53,7 +44,6 @@ pub free-family-spec : {M : Type 1} → statement M
 free-family-spec =
     tie.close
     (tie.spec
-    family-requires
     clear-bytes-requires
     clear-bytes-requires-2
     clear-sets-requires

@@ -1,75 +1,91 @@
--- `request` meets its contract: each code's request is that of its frame, and a code that is none of the six is answered 8 with the arrays as they
--- came. Assumes nothing.
-use mathlib.Core.Path.{refl}
-use borrow.Author.Tests.{ne-eqb}
+-- `request` meets its contract: codes below 3 open, 3 and 4 ask, and the rest end an action or are malformed; the arrays say what each has to know.
+-- Assumes nothing.
+use Prim.Native.Nat.{_%_}
+use native.Mathlib.Nat.{mod-eq-of-lt}
+use native.Mathlib.Omega.{arith}
+use borrow.Author.Needs.{needs}
+use Rattle.views.proofs.ViewLaws.{parents-sound}
+use Rattle.views.proofs.Lines.{climbed-line}
+use Rattle.views.proofs.Rows.{looked-for-child}
+use Rattle.lines.proofs.LineEnds.{framed-ask}
 use Rattle.bench.proofs.engine.request.Statement.{statement}
 use Rattle.bench.proofs.engine.request.Tie as tie
 
-open-top-requires : tie.Need-open-top-requires
-open-top-requires c κs = c .before .before .before .before .before .pre
-
-open-sub-requires : tie.Need-open-sub-requires
-open-sub-requires c κs = c .before .before .before .before .before .pre
-
-read-requires : tie.Need-read-requires
-read-requires c κs = c .before .before .before .before .before .pre
-
-write-requires : tie.Need-write-requires
-write-requires c κs = c .before .before .before .before .before .pre
-
-commit-requires : tie.Need-commit-requires
-commit-requires c κs = c .before .before .before .before .before .pre
-
-abort-requires : tie.Need-abort-requires
-abort-requires c κs = c .before .before .before .before .before .pre
+open-requires : tie.Need-open-requires
+open-requires c κs = search needs
 
 returns : tie.Need-returns
-returns c = rw (c .before .before .before .before .before .match .keys1) (c .open-top .ensures)
+returns c = search needs
+
+cast-running-child : tie.Need-cast-running-child
+cast-running-child c = search needs
+
+add-running-child : tie.Need-add-running-child
+add-running-child c = search needs
+
+running-child-requires : tie.Need-running-child-requires
+running-child-requires c κs = search needs
+
+line-of-requires : tie.Need-line-of-requires
+line-of-requires c κs = search needs
+
+ask-requires : tie.Need-ask-requires
+ask-requires c κs =
+    let lined = c .before .before .before .before in
+    let looked = lined .before .before .before in
+    let child = looked .running-child in
+    let s = looked .before .before .before .before in
+    let args = s .args in (
+      s .pre,
+      looked-for-child (args .parents .now) (args .states .now) (args .x) (child .result) (child .ensures),
+      λ known runs.
+          climbed-line (args .parents .now)
+          (parents-sound (args .parents .now) (args .states .now) (args .reads .now) (args .writes .now) (s .pre .isSound))
+          (args .x) (lined .line-of .result) (lined .line-of .ensures) known,
+    )
 
 returns-2 : tie.Need-returns-2
-returns-2 c = rw (c .before .before .before .before .before .match .keys2) (c .open-sub .ensures)
+returns-2 c =
+    let asks = c .before .before .before .before .before .before .before in
+    let elsewhere = asks .before .before .before .before in
+    let args = elsewhere .before .args in
+    rw (framed-ask (args .code) (args .x) (args .y) (elsewhere .if1 .left) (asks .if2 .taken)) (c .ask .ensures)
+
+freed-requires : tie.Need-freed-requires
+freed-requires c κs =
+    let s = c .before .before .before .before .before .before in
+    let args = s .args in
+    (parents-sound (args .parents .now) (args .states .now) (args .reads .now) (args .writes .now) (s .pre .isSound), s .pre .parentsLong)
+
+end-requires : tie.Need-end-requires
+end-requires c κs =
+    let freed = c .before .before .before .before in
+    let ends = freed .before .before in
+    let looked = ends .before in
+    let child = looked .running-child in
+    let s = looked .before .before .before .before in
+    let args = s .args in (
+      s .pre,
+      ends .if2 .left,
+      looked-for-child (args .parents .now) (args .states .now) (args .x) (child .result) (child .ensures),
+      λ given known runs. rw (mod-eq-of-lt known) at (freed .freed .ensures given),
+    )
 
 returns-3 : tie.Need-returns-3
-returns-3 c = rw (c .before .before .before .before .before .match .keys3) (c .read .ensures)
-
-returns-4 : tie.Need-returns-4
-returns-4 c = rw (c .before .before .before .before .before .match .keys4) (c .write .ensures)
-
-returns-5 : tie.Need-returns-5
-returns-5 c = rw (c .before .before .before .before .before .match .keys5) (c .commit .ensures)
-
-returns-6 : tie.Need-returns-6
-returns-6 c = rw (c .before .before .before .before .before .match .keys6) (c .abort .ensures)
-
-returns-7 : tie.Need-returns-7
-returns-7 c =
-    let s = c .before in
-    let args = s .args in
-    let none-of = c .match .rest in
-    rw (
-      ne-eqb (args .code) 1 (none-of .0 .0 .0 .0 .0 .1),
-      ne-eqb (args .code) 2 (none-of .0 .0 .0 .0 .1),
-      ne-eqb (args .code) 3 (none-of .0 .0 .0 .1),
-      ne-eqb (args .code) 4 (none-of .0 .0 .1),
-      ne-eqb (args .code) 5 (none-of .0 .1),
-      ne-eqb (args .code) 6 (none-of .1),
-    )
-    (record { outcome = refl; arrays = s .pre })
+returns-3 c = search needs
 
 pub request-spec : {M : Type 1} → statement M
 request-spec =
     tie.close
     (tie.spec
-    open-top-requires
-    open-sub-requires
-    read-requires
-    write-requires
-    commit-requires
-    abort-requires
+    open-requires
     returns
+    cast-running-child
+    add-running-child
+    running-child-requires
+    line-of-requires
+    ask-requires
     returns-2
-    returns-3
-    returns-4
-    returns-5
-    returns-6
-    returns-7)
+    freed-requires
+    end-requires
+    returns-3)

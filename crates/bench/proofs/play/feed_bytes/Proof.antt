@@ -4,35 +4,36 @@ use Prim.Native.Nat.{_-_}
 use native.Mathlib.Omega.{arith}
 use borrow.Author.Needs.{needs}
 use lib.ListN.{length}
-use Rattle.lines.specs.Arrays.{KnownArrays}
+use Rattle.lines.specs.Arrays.{KnownArrays, KnownIndex}
 use Rattle.lines.specs.Feeding.{feedingOf}
 use Rattle.lines.proofs.FeedLaws.{Left, left-none, left-more, left-all}
 use Rattle.bench.proofs.play.feed_bytes.Statement.{statement}
 use Rattle.bench.proofs.play.feed_bytes.Tie as tie
 
 abbrev Inv-loop : tie.InvT-loop
-Inv-loop parents₀ states₀ reads₀ writes₀ is-sound count value input out₀ values₀ place₀ parents states reads writes out place =
+Inv-loop parents₀ states₀ reads₀ writes₀ children₀ lines₀ running₀ is-sound count value input out₀ values₀ place₀ parents states reads writes children lines running out place =
     Left (feedingOf parents₀ states₀ reads₀ writes₀ count value) input out₀
     (feedingOf parents states reads writes (place .count) (place .value)) out (place .written) (place .at)
     × KnownArrays is-sound parents states reads writes
+    × KnownIndex is-sound parents states children lines running
 
 abbrev μ-loop : tie.MeasureT-loop
-μ-loop parents₀ states₀ reads₀ writes₀ is-sound count value input out₀ values₀ place₀ parents states reads writes out place =
+μ-loop parents₀ states₀ reads₀ writes₀ children₀ lines₀ running₀ is-sound count value input out₀ values₀ place₀ parents states reads writes children lines running out place =
     length input - place .at
 
 loop-holds : tie.Need-loop-holds Inv-loop μ-loop
-loop-holds c = let s = c .before .before .before in (left-none (s .pre .1), s .pre .0)
+loop-holds c = let s = c .before .before .before in (left-none (s .pre .2), s .pre .0, s .pre .1)
 
 values-requires : tie.Need-values-requires Inv-loop μ-loop
 values-requires c κs = search needs
 
 feed-next-requires : tie.Need-feed-next-requires Inv-loop μ-loop
 feed-next-requires c κs =
-    let t = c .before .before .before .before .before .before in
+    let t = c .before .before .before .before .before .before .before .before .before in
     let l = t .before .before in
     let room = l .loop .inv .0 .room in
     let inside = t .if1 .taken in
-    (l .loop .inv .1, l .before .values .ensures, inside, omega arith)
+    (l .loop .inv .1, l .loop .inv .2, l .before .values .ensures, inside, omega arith)
 
 loop-less : tie.Need-loop-less Inv-loop μ-loop
 loop-less c =
@@ -44,8 +45,8 @@ loop-less c =
 loop-again : tie.Need-loop-again Inv-loop μ-loop
 loop-again c =
     let turn = c .before .before .feed-next .ensures in
-    let t = c .before .before .before .before .before .before .before .before .before in
-    (left-more (t .before .before .loop .inv .0) (turn .0), turn .1)
+    let t = c .before .before .before .before .before .before .before .before .before .before .before .before in
+    (left-more (t .before .before .loop .inv .0) (turn .0), turn .1, turn .2)
 
 same-length : tie.Need-same-length Inv-loop μ-loop
 same-length c = c .before .before .loop .inv .0 .long

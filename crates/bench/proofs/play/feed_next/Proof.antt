@@ -22,35 +22,40 @@ end-line-requires c κs = search needs
 put-answer-requires : tie.Need-put-answer-requires
 put-answer-requires c κs =
     let e = c .before in
-    let start = e .before .before .before .before .before .before .before .before .before in
-    (start .pre .3, ended-small (e .end-line .ensures))
+    let start = e .before .before .before .before .before .before .before .before .before .before .before .before in
+    (start .pre .4, ended-small (e .end-line .ensures .0))
 
-add-t24 : tie.Need-add-t24
-add-t24 c =
+add-t30 : tie.Need-add-t30
+add-t30 c =
     let e = c .before .before .before .before in
-    let found = e .before .before .before .before .before in
+    let found = e .before .before .before .before .before .before .before .before in
     let start = found .before .before .before .before in
     let input = start .args .input .now in
     let within : start .args .place .at + found .before .next-end .result .size ≤ length input = found .before .next-end .ensures .within (found .if1 .taken) in
-    let known : length input < 2 ^ 64 = search (needs, start .good .1 .1 .1 .1 .1 .1 .1 .0) in
+    let known : length input < 2 ^ 64 = search (needs, start .good .1 .1 .1 .1 .1 .1 .1 .1 .1 .1 .0) in
     record { fits = omega arith }
 
-add-t25 : tie.Need-add-t25
-add-t25 c = search needs
+add-t31 : tie.Need-add-t31
+add-t31 c =
+    let e = c .before .before .before .before in
+    let start = e .before .before .before .before .before .before .before .before .before .before .before .before in
+    let room = start .pre .4 in
+    let known : length (start .args .out .now) < 2 ^ 64 = search (needs, start .good .1 .1 .1 .1 .1 .1 .1 .1 .1 .1 .1 .0) in
+    record { fits = omega arith }
 
 same-length : tie.Need-same-length
 same-length c =
     let e = c .before .before .before .before in
-    let a = e .before .before .before .before .before .before .before .before .before .args in
+    let a = e .before .before .before .before .before .before .before .before .before .before .before .before .args in
     ap length (c .before .before .put-answer .ensures) ∙ length-sets (a .out .now) (a .place .written) (answerText (e .end-line .result))
 
 returns : tie.Need-returns
 returns c =
     let e = c .before .before .before .before in
-    let found = e .before .before .before .before .before in
+    let found = e .before .before .before .before .before .before .before .before in
     let end = found .before .next-end .ensures in
     let some = found .if1 .taken in
-    (fed-on refl some (end .within some) refl (line-fed (end .ends some) (e .end-line .ensures) (c .before .before .put-answer .ensures)), e .end-line .ensures .arrays)
+    (fed-on refl some (end .within some) refl (line-fed (end .ends some) (e .end-line .ensures .0) (c .before .before .put-answer .ensures)), e .end-line .ensures .0 .arrays, e .end-line .ensures .1)
 
 shared-slice-read-c : tie.Need-shared-slice-read-c
 shared-slice-read-c c = search needs
@@ -61,17 +66,17 @@ count-after-requires c κs = search needs
 value-after-requires : tie.Need-value-after-requires
 value-after-requires c κs = search needs
 
-add-t29 : tie.Need-add-t29
-add-t29 c = search needs
+add-t35 : tie.Need-add-t35
+add-t35 c = search needs
 
 returns-2 : tie.Need-returns-2
 returns-2 c =
     let on = c .before .before .before in
     let end = on .before .next-end .ensures in
     let start = on .before .before .before .before in
-    let inside = start .pre .2 in
+    let inside = start .pre .3 in
     let one = rw add-zero at (take-characters 1 (start .args .input .now) (start .args .place .at) 0 (omega arith)) in
-    (fed-on {size = 1} refl (λ none. absurd (omega arith)) (omega arith) (sym one) (character-fed (end .goesOn (on .if1 .left)) (c .before .count-after .ensures) (c .value-after .ensures)), start .pre .0)
+    (fed-on {size = 1} refl (λ none. absurd (omega arith)) (omega arith) (sym one) (character-fed (end .goesOn (on .if1 .left)) (c .before .count-after .ensures) (c .value-after .ensures)), start .pre .0, start .pre .1)
 
 pub feed-next-spec : {M : Type 1} → statement M
 feed-next-spec =
@@ -80,12 +85,12 @@ feed-next-spec =
     next-end-requires
     end-line-requires
     put-answer-requires
-    add-t24
-    add-t25
+    add-t30
+    add-t31
     same-length
     returns
     shared-slice-read-c
     count-after-requires
     value-after-requires
-    add-t29
+    add-t35
     returns-2)
