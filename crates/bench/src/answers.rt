@@ -37,6 +37,9 @@ pub const NOT_GRANTED: u8 = 6;
 // The record isn't sound.
 pub const UNSOUND: u8 = 7;
 
+// The line, the frame or the saved text is malformed.
+pub const MALFORMED: u8 = 8;
+
 // The rows of `open top n`.
 pub(crate) fn open_top_row(states: &[u8; 64], n: u32) -> u8
     ensures { λ r. ⌜ r ≡ row readWrite (tree [] (now (states .entry))) (openTop n) ⌝ }
@@ -99,7 +102,7 @@ pub(crate) fn abort_row(states: &[u8; 64], a: u32) -> u8
     ACCEPTED
 }
 
-// The rows of `read a, i` and `write a, i`, where `owners` are the numbers in the sets of the conflicting modes at instrument i, and `line` is a with its ancestors.
+// The rows of `read a, i` and `write a, i`, where `owners` are the numbers in the sets of the conflicting modes at instrument i, and `line` is a with its ancestors, or empty where they are not known.
 pub(crate) fn ask_row<'a>(
     parents: &'a [u8; 64],
     states: &'a [u8; 64],
@@ -140,8 +143,7 @@ fn looked_up_ask_row<'a>(
     ensures { λ r. ⌜ r ≡ rowBy (λ m asker at. ownersInLine (now (parents .entry)) (now (states .entry)) owners asker) readWrite (tree (now (parents .entry)) (now (states .entry))) (ask 0 a i) ⌝ }
 {
     let busy = running_child(parents, states, (a % 64) as u8 + 1);
-    let line = ancestry::line_of(parents, a as usize);
-    ask_row(parents, states, busy, line, owners, a, i)
+    ask_row(parents, states, busy, 0, owners, a, i)
 }
 
 pub(crate) fn open_top_answer<'a>(

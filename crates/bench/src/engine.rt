@@ -1,5 +1,6 @@
 // Requests on four arrays in place, for a bench that is known to be sound: the trace player's steps. No array is copied.
 use crate::answers::ACCEPTED;
+use crate::answers::MALFORMED;
 use crate::answers::abort_row;
 use crate::answers::ask_row;
 use crate::answers::commit_row;
@@ -23,9 +24,6 @@ ghost use Rattle.views.specs.Parts.{SoundParents, descends};
 ghost use Rattle.views.specs.Index.{KnowsChild, KnowsLine, KnowsFamily};
 ghost use Rattle.lines.specs.Arrays.{SoundArrays, Stepped, Freed, modeOf, freesBy};
 ghost use Rattle.lines.specs.Feeding.{framed};
-
-// A line that is malformed has no request.
-pub const MALFORMED: u8 = 8;
 
 fn open_top(
     parents: &mut [u8; 64],
@@ -105,7 +103,7 @@ fn entered(set: u64, k: usize, enters: bool) -> u64
     set
 }
 
-// Read or write, where `busy` says whether a has a running child, and `line` is a with its ancestors. A grant stores both sets of the instrument: nobody can guess
+// Read or write, where `busy` says whether a has a running child, and `line` is a with its ancestors, or empty where they are not known. A grant stores both sets of the instrument: nobody can guess
 // which of the two modes comes next, and a store costs less than a wrong guess.
 pub(crate) fn ask(
     parents: &mut [u8; 64],
@@ -258,8 +256,7 @@ pub(crate) fn request(
     }
     let busy = running_child(parents, states, (x % 64) as u8 + 1);
     if code < 5 {
-        let line = ancestry::line_of(parents, x as usize);
-        return ask(parents, states, reads, writes, busy, line, code == 4, x, y);
+        return ask(parents, states, reads, writes, busy, 0, code == 4, x, y);
     }
     let gone = freed(parents, code, x);
     end(parents, states, reads, writes, busy, gone, code, x, y)

@@ -2,9 +2,9 @@
 use crate::Bench;
 use crate::Fed;
 use crate::Player;
+use crate::answers::MALFORMED;
 use crate::answers::UNSOUND;
 use crate::ends::next_end;
-use crate::engine::MALFORMED;
 use crate::index::children_in;
 use crate::index::lines_in;
 use crate::index::request;

@@ -25,7 +25,18 @@ pub(crate) fn running_child<'a>(parents: &'a [u8; 64], states: &'a [u8; 64], par
     found
 }
 
-// Whether the heir of each owner is the asker or an ancestor of it: one of `line`.
+// The asker and its ancestors: `line` where they are known, and else gathered going up. An empty set says that they are not: the asker would be in it.
+fn known_line(parents: &[u8; 64], line: u64, a: usize) -> u64
+    requires { ⌜ SoundParents (now parents) × (a < 64) × ((line ≡ 0 → ⊥) → (k : ℕ) → member line k ≡ inLine (now parents) a k) ⌝ }
+    ensures { λ r. ⌜ ((k : ℕ) → member r k ≡ inLine (now (parents .entry)) a k) ⌝ }
+{
+    if line != 0 {
+        return line;
+    }
+    ancestry::line_of(parents, a)
+}
+
+// Whether the heir of each owner is the asker or an ancestor of it: one of `line`, where that is known.
 pub(crate) fn heirs_in_line<'a>(
     parents: &'a [u8; 64],
     states: &'a [u8; 64],
@@ -33,14 +44,18 @@ pub(crate) fn heirs_in_line<'a>(
     owners: u64,
     a: usize,
 ) -> bool
-    requires { ⌜ SoundTree (now parents) (now states) × InUse (now states) owners × (a < 64) × (isRunning (stateOf (getD (now states) a 0)) ≡ true) × ((k : ℕ) → member line k ≡ inLine (now parents) a k) ⌝ }
+    requires { ⌜ SoundTree (now parents) (now states) × InUse (now states) owners × (a < 64) × (isRunning (stateOf (getD (now states) a 0)) ≡ true) × ((line ≡ 0 → ⊥) → (k : ℕ) → member line k ≡ inLine (now parents) a k) ⌝ }
     ensures { λ r. ⌜ r ≡ ownersInLine (now (parents .entry)) (now (states .entry)) owners a ⌝ }
 {
-    let mut rest = sets::difference(owners, line);
+    if sets::within(owners, line) {
+        return true;
+    }
+    let whole = known_line(parents, line, a);
+    let mut rest = sets::difference(owners, whole);
     while rest != 0 {
         let k = sets::least(rest);
         let h = ancestry::heir(parents, states, k);
-        if !sets::member(line, h) {
+        if !sets::member(whole, h) {
             return false;
         }
         rest = sets::without_least(rest);

@@ -6,11 +6,11 @@ use mathlib.Core.Option.{none, some, Option·none-ne-some}
 use Prim.Native.Nat.{ℕ, zero, suc, _-_, _<_, _%_, _^_}
 use native.Mathlib.Nat.{mod-eq-of-lt}
 use native.Mathlib.Omega.{arith}
-use borrow.Author.Tests.{eqb-true, leb-true}
+use borrow.Author.Tests.{eqb-true, eqb-false, leb-true}
 use lib.Dec.{eqb, leb}
 use lib.ListN.{getD}
-use Rattle.sets.specs.Sets.{member, difference}
-use Rattle.sets.proofs.Laws.{member-empty, member-difference, difference-fits}
+use Rattle.sets.specs.Sets.{member, difference, within}
+use Rattle.sets.proofs.Laws.{member-empty, member-difference, difference-fits, no-members, within-at, within-no-difference}
 use Rattle.rules.specs.Tests.{if_then_else_, _⇒_, all, from}
 use Rattle.rules.specs.Bench.{isFree, isRunning}
 use Rattle.rules.specs.Owners.{above, isAncestor, nearest, heir, isAskerOrAncestor, heirInLine}
@@ -202,3 +202,14 @@ module _ (parents states : List ℕ) (ok : SoundTree parents states) (a line : �
         (t .was))
         (here ∙ m)))
         ∙ left .answer
+
+-- Owners within the asker's line, or none where that isn't known, are in line.
+pub within-line : (parents states : List ℕ) → SoundTree parents states → (a line owners : ℕ) → ((line ≡ 0 → ⊥) → (k : ℕ) → member line k ≡ inLine parents a k) → owners < 2 ^ 64 → InUse states owners → a < 64 → isRunning (stateOf (getD states a 0)) ≡ true → within owners line ≡ true → true ≡ ownersInLine parents states owners a
+within-line parents states ok a line owners lined fits used la runs inside =
+    by-bool (eqb line 0)
+    (λ t.
+    let nobody : owners ≡ 0 = no-members 64 owners fits (λ k l. refuted (member owners k) (λ m. clash (member line k) (within-at owners line inside k m) (rw (eqb-true line 0 t) (member-empty k)))) in
+    rw nobody (sym (owners-none parents states a)))
+    (λ t.
+    remaining-end parents states owners a (difference owners line) (within-no-difference 64 owners line fits inside)
+    (remaining-start parents states ok a line (lined (eqb-false line 0 t)) owners fits used la runs))

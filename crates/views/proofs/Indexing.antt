@@ -296,7 +296,7 @@ module _ (parents states : List ℕ) (ok : SoundTree parents states) (children l
       rw (mod-eq-of-lt l) (busy-known-running (tree parents states) ok children runs (h .ofChildren) (h .ofRunning) x l (rw r) fits)
 
   pub knows-line : KnowsLine parents states x (getD lines (x % 64) 0)
-  knows-line l r k = rw (mod-eq-of-lt l) (line-known-bytes parents states ok lines (h .ofLines) x l (rw r) k)
+  knows-line nonempty l r k = rw (mod-eq-of-lt l) (line-known-bytes parents states ok lines (h .ofLines) x l (rw r) k)
 
 -- the sets as they are first made
 pub indexed-built : (parents states : List ℕ) → SoundTree parents states → (children lines : List ℕ) (runs : ℕ) → (length children ≡ 64) × ((p k : ℕ) → p < 64 → k < 64 → member (getD children p 0) k ≡ eqb (getD parents k 0) (suc p)) → (length lines ≡ 64) × ((a : ℕ) → a < 64 → (k : ℕ) → member (getD lines a 0) k ≡ inLine parents a k) → ((k : ℕ) → k < 64 → member runs k ≡ eqb (getD states k 0) 1) → Indexed (tree parents states) children lines runs

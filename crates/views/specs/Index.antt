@@ -39,9 +39,9 @@ pub record Indexed (b : rules.Bench) (children lines : List ℕ) (running : ℕ)
 abbrev pub KnowsChild : List ℕ → List ℕ → ℕ → Bool → Type 0
 KnowsChild parents states a busy = a < 64 → getD states a 0 ≡ 1 → busy ≡ hasRunningChild readWrite (tree parents states) a
 
--- itself and its ancestors
+-- itself and its ancestors; an empty set says that they are not known
 abbrev pub KnowsLine : List ℕ → List ℕ → ℕ → ℕ → Type 0
-KnowsLine parents states a line = a < 64 → getD states a 0 ≡ 1 → (k : ℕ) → member line k ≡ inLine parents a k
+KnowsLine parents states a line = (line ≡ 0 → ⊥) → a < 64 → getD states a 0 ≡ 1 → (k : ℕ) → member line k ≡ inLine parents a k
 
 -- itself and its descendants
 abbrev pub KnowsFamily : List ℕ → List ℕ → ℕ → ℕ → Type 0

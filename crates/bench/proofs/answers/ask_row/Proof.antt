@@ -39,7 +39,7 @@ heirs-in-line-requires c κs =
     let first = c .before .commit-row in
     let f = may-commit (args .parents .now) (args .states .now) (args .owners) (args .a)
     (args .i) (first .result) (known .if2 .left) (first .ensures) (c .if3 .left) in
-    (s .pre .0, s .pre .1, f .known, f .runs, s .pre .3 (f .known) (runs-byte (getD (args .states .now) (args .a) 0) (f .runs)))
+    (s .pre .0, s .pre .1, f .known, f .runs, λ nonempty. s .pre .3 nonempty (f .known) (runs-byte (getD (args .states .now) (args .a) 0) (f .runs)))
 
 returns-4 : tie.Need-returns-4
 returns-4 c =

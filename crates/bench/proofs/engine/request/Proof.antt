@@ -1,11 +1,10 @@
 -- `request` meets its contract: codes below 3 open, 3 and 4 ask, and the rest end an action or are malformed; the arrays say what each has to know.
 -- Assumes nothing.
-use Prim.Native.Nat.{_%_}
+use mathlib.Core.Path.{refl}
 use native.Mathlib.Nat.{mod-eq-of-lt}
 use native.Mathlib.Omega.{arith}
 use borrow.Author.Needs.{needs}
 use Rattle.views.proofs.ViewLaws.{parents-sound}
-use Rattle.views.proofs.Lines.{climbed-line}
 use Rattle.views.proofs.Rows.{looked-for-child}
 use Rattle.lines.proofs.LineEnds.{framed-ask}
 use Rattle.bench.proofs.engine.request.Statement.{statement}
@@ -26,27 +25,20 @@ add-running-child c = search needs
 running-child-requires : tie.Need-running-child-requires
 running-child-requires c κs = search needs
 
-line-of-requires : tie.Need-line-of-requires
-line-of-requires c κs = search needs
-
 ask-requires : tie.Need-ask-requires
 ask-requires c κs =
-    let lined = c .before .before .before .before in
-    let looked = lined .before .before .before in
+    let looked = c .before .before .before .before .before in
     let child = looked .running-child in
     let s = looked .before .before .before .before in
     let args = s .args in (
       s .pre,
       looked-for-child (args .parents .now) (args .states .now) (args .x) (child .result) (child .ensures),
-      λ known runs.
-          climbed-line (args .parents .now)
-          (parents-sound (args .parents .now) (args .states .now) (args .reads .now) (args .writes .now) (s .pre .isSound))
-          (args .x) (lined .line-of .result) (lined .line-of .ensures) known,
+      λ known. absurd (known refl),
     )
 
 returns-2 : tie.Need-returns-2
 returns-2 c =
-    let asks = c .before .before .before .before .before .before .before in
+    let asks = c .before .before .before .before .before in
     let elsewhere = asks .before .before .before .before in
     let args = elsewhere .before .args in
     rw (framed-ask (args .code) (args .x) (args .y) (elsewhere .if1 .left) (asks .if2 .taken)) (c .ask .ensures)
@@ -83,7 +75,6 @@ request-spec =
     cast-running-child
     add-running-child
     running-child-requires
-    line-of-requires
     ask-requires
     returns-2
     freed-requires
