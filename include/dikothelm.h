@@ -3,16 +3,20 @@
    Actions nest, siblings run side by side, and instruments are locked by Moss's rules: an action may read what only itself and its ancestors write,
    and may write what only itself and its ancestors read or write. A committed subaction's locks count as its parent's.
 
-   The dikothelm_image_ functions are the proved library; link target/staticlib/libdikothelm.a, which `rt staticlib dikothelm` proves and builds. Below
-   them stand the same ones over a struct, and a few that only look at it: plain C, tested, not proved.
+   dikothelm_version and the dikothelm_image_ functions are the proved library; link target/staticlib/libdikothelm.a, which `rt staticlib dikothelm` proves
+   and builds. Below them stand the same ones over a struct, and a few that only look at it: plain C, tested, not proved.
 
    No function allocates, prints or keeps anything between calls; every number and every content of a record has its answer.
-   What the caller must see to: pointers are valid for their lengths, aligned, and what is lent to write doesn't overlap the rest. */
+   What the caller must see to: pointers are valid for their lengths, aligned, and what is lent to write doesn't overlap the rest. A pointer whose length
+   is 0 may be NULL: nothing is read or written through it. Pointers without a length may not: `count`, and a bench or progress in the functions over a struct. */
 #ifndef DIKOTHELM_H
 #define DIKOTHELM_H
 
 #include <stddef.h>
 #include <stdint.h>
+
+/* This header's version, major * 65536 + minor * 256 + patch. The archive's is dikothelm_version(); the two belong together where they are equal. */
+#define DIKOTHELM_VERSION 0x000200 /* 0.2.0 */
 
 #define DIKOTHELM_ACTIONS 64        /* action numbers are 0 to 63 */
 #define DIKOTHELM_INSTRUMENTS 128   /* instruments are 0 to 127 */
@@ -52,7 +56,11 @@ extern "C" {
      actions, 128 bytes: the parents of numbers 0 to 63 (0: none, else the parent's number + 1), then their states (enum dikothelm_action_state);
      owners, 256 words: the read sets of instruments 0 to 127, then their write sets (bit k: number k).
 
-   Lengths count elements. A record of other lengths gets 7. Whatever the answer but 0, nothing changes (load apart). */
+   Lengths count elements. A record of other lengths gets 7 and stays as it is. Whatever the answer but 0, nothing changes, with two exceptions: `count` is
+   then set to 0, and load leaves an empty bench. */
+
+/* The version of the archive, as DIKOTHELM_VERSION. */
+uint32_t dikothelm_version(void);
 
 /* Makes the record an empty bench. 0, or 7 for another length. */
 uint8_t dikothelm_image_empty(uint8_t *actions, size_t actions_length, uint64_t *owners, size_t owners_length);
@@ -80,7 +88,11 @@ uint8_t dikothelm_image_commit(uint8_t *actions, size_t actions_length, uint64_t
 /* Aborts a: frees it and all its descendants, running or committed, and their locks. 7; 1: a above 63; 4: a isn't running. */
 uint8_t dikothelm_image_abort(uint8_t *actions, size_t actions_length, uint64_t *owners, size_t owners_length, uint32_t a);
 
-/* Writes the bench as text to the start of out; bytes behind it stay. count: the bytes written, 0 where refused. 0; 7; 9: out is shorter than the text. */
+/* How many bytes the bench's text has, put into count. 0; 7, with count 0. */
+uint8_t dikothelm_image_text_size(const uint8_t *actions, size_t actions_length, const uint64_t *owners, size_t owners_length, size_t *count);
+
+/* Writes the bench as text to the start of out; bytes behind it stay. count: the bytes written. 0; 7; 9: out is shorter than the text. Refused, it sets
+   count to 0 and leaves all of out as it was. */
 uint8_t dikothelm_image_save(const uint8_t *actions, size_t actions_length, const uint64_t *owners, size_t owners_length, uint8_t *out, size_t out_length,
                              size_t *count);
 
@@ -89,11 +101,18 @@ uint8_t dikothelm_image_save(const uint8_t *actions, size_t actions_length, cons
 uint8_t dikothelm_image_load(uint8_t *actions, size_t actions_length, uint64_t *owners, size_t owners_length, const uint8_t *text, size_t text_length);
 
 /* Plays lines of hexadecimal, each ended by a newline: 01nn open top, 02nnpp open sub, 03aaii read, 04aaii write, 05aa commit, 06aa abort; any other line
-   gets 8. For each line it writes the answer to out: two digits and a newline. A call takes the input's first bytes, no more than out_length / 3 of them;
-   progress says how many it took and wrote and carries a begun line to the next call. A last line without its newline: play "\n" where
-   progress[DIKOTHELM_DIGITS] isn't 0. 0, or 7 where the record or progress has another length; on an unsound record each line gets its 07. */
+   gets 8. For each line it writes the answer to out, two digits and a newline; bytes behind the answers stay. A call takes the input's first out_length / 3
+   bytes, or all where it has fewer: lend at least 3, since below that nothing is taken, and call again with the rest. progress says how many bytes were
+   taken and written and carries a begun line to the next call; dikothelm_image_finish ends the input. 0, or 7 where the record or progress has another
+   length. On an unsound record each line with a request gets 07. */
 uint8_t dikothelm_image_play(uint8_t *actions, size_t actions_length, uint64_t *owners, size_t owners_length, uint64_t *progress, size_t progress_length,
                              const uint8_t *input, size_t input_length, uint8_t *out, size_t out_length);
+
+/* Ends the input that was played: a last line without its newline is answered if it has a character, and nothing else is done. progress says that 0 bytes
+   were taken and 0 or 3 written. Lend at least 3: below that a begun line stays begun, so that the call can be made again; progress[DIKOTHELM_DIGITS] is then
+   not 0. 0, or 7 where the record or progress has another length. */
+uint8_t dikothelm_image_finish(uint8_t *actions, size_t actions_length, uint64_t *owners, size_t owners_length, uint64_t *progress, size_t progress_length,
+                               uint8_t *out, size_t out_length);
 
 #ifdef __cplusplus
 }
@@ -147,6 +166,11 @@ static inline enum dikothelm_answer dikothelm_abort(dikothelm_bench *bench, uint
     return (enum dikothelm_answer)dikothelm_image_abort(DIKOTHELM_IMAGE_(bench), a);
 }
 
+/* 0 or 7. */
+static inline enum dikothelm_answer dikothelm_text_size(const dikothelm_bench *bench, size_t *count) {
+    return (enum dikothelm_answer)dikothelm_image_text_size(DIKOTHELM_IMAGE_(bench), count);
+}
+
 /* 0, 7 or 9. */
 static inline enum dikothelm_answer dikothelm_save(const dikothelm_bench *bench, uint8_t *out, size_t out_length, size_t *count) {
     return (enum dikothelm_answer)dikothelm_image_save(DIKOTHELM_IMAGE_(bench), out, out_length, count);
@@ -163,14 +187,20 @@ static inline enum dikothelm_answer dikothelm_play(dikothelm_bench *bench, uint6
     return (enum dikothelm_answer)dikothelm_image_play(DIKOTHELM_IMAGE_(bench), progress, (size_t)DIKOTHELM_PROGRESS, input, input_length, out, out_length);
 }
 
-/* Looking at a bench. */
+/* 0. progress has DIKOTHELM_PROGRESS words. */
+static inline enum dikothelm_answer dikothelm_finish(dikothelm_bench *bench, uint64_t *progress, uint8_t *out, size_t out_length) {
+    return (enum dikothelm_answer)dikothelm_image_finish(DIKOTHELM_IMAGE_(bench), progress, (size_t)DIKOTHELM_PROGRESS, out, out_length);
+}
 
-/* The state of number n, DIKOTHELM_FREE, DIKOTHELM_RUNNING or DIKOTHELM_COMMITTED (or a byte that means nothing); a number above 63 is free. */
+/* Looking at a bench, sound or not. */
+
+/* The state of number n, DIKOTHELM_FREE, DIKOTHELM_RUNNING or DIKOTHELM_COMMITTED (on an unsound record any byte); a number above 63 is free. */
 static inline uint8_t dikothelm_state(const dikothelm_bench *bench, uint32_t n) {
     return n < DIKOTHELM_ACTIONS ? bench->actions[DIKOTHELM_ACTIONS + n] : (uint8_t)DIKOTHELM_FREE;
 }
 
-/* The parent of number n; -1 for a top action, a free number and a number above 63. */
+/* The parent that the record has for number n, -1 where it has none: on a sound bench for a top action and a free number. An unsound record may have one for
+   a free number too, and any up to 254. -1 for a number above 63. */
 static inline int dikothelm_parent(const dikothelm_bench *bench, uint32_t n) {
     return n < DIKOTHELM_ACTIONS ? (int)bench->actions[n] - 1 : -1;
 }
@@ -206,7 +236,7 @@ static inline uint64_t dikothelm_heirs(const dikothelm_bench *bench, uint64_t nu
     return found;
 }
 
-/* An answer in words. */
+/* An answer in words; a number that no answer has, in words too. */
 static inline const char *dikothelm_says(enum dikothelm_answer answer) {
     switch (answer) {
     case DIKOTHELM_ACCEPTED: return "accepted";

@@ -1,4 +1,5 @@
-/* The header's functions, in C and in C++: the whole case, what only looks at a bench, saving and playing at their edges, and records of other lengths. */
+/* The header's functions, in C and in C++: the whole case, what only looks at a bench, saving, playing and ending the input at their edges, lines that look
+   right and aren't, records of other lengths, and NULL with length 0. */
 #include "dikothelm.h"
 #include "dikothelm.h" /* twice does no harm */
 
@@ -43,6 +44,8 @@ static void the_whole_case(void) {
 static void numbers_at_the_edges(void) {
     dikothelm_bench bench;
     dikothelm_empty(&bench);
+    SAME(dikothelm_version(), 512);
+    SAME(DIKOTHELM_VERSION, 512);
     SAME(DIKOTHELM_ACTIONS, 64);
     SAME(DIKOTHELM_INSTRUMENTS, 128);
     SAME(sizeof bench, 128 + 256 * 8);
@@ -132,40 +135,293 @@ static void saved_and_loaded(void) {
     SAME(count, 0);
 }
 
-/* A trace in pieces of `piece` bytes, with room for as many. */
-static void played_in_pieces(size_t piece) {
+/* The sizes of texts, which are the counts of saves. */
+static void text_is(const char *what, const dikothelm_bench *bench, enum dikothelm_answer answer, size_t size) {
+    static uint8_t out[DIKOTHELM_LONGEST_TEXT];
+    const dikothelm_bench before = *bench;
+    size_t count = 77, saved = 77;
+    if (dikothelm_text_size(bench, &count) != answer || count != size || dikothelm_save(bench, out, sizeof out, &saved) != answer || saved != size) {
+        printf("%s: the text's size is %lu, saved %lu\n", what, (unsigned long)count, (unsigned long)saved);
+        failed = 1;
+    }
+    if (answer == 0 && size > 0) SAME(dikothelm_save(bench, out, size - 1, &saved), DIKOTHELM_NO_ROOM);
+    SAME(memcmp(bench, &before, sizeof before), 0);
+}
+
+static void text_sizes(void) {
+    dikothelm_bench bench, broken;
+    uint32_t k;
+    memset(&bench, 0, sizeof bench);
+    text_is("the empty bench", &bench, DIKOTHELM_ACCEPTED, 0);
+    dikothelm_open_top(&bench, 63);
+    text_is("one action", &bench, DIKOTHELM_ACCEPTED, 9);
+    dikothelm_open_sub(&bench, 0, 63);
+    dikothelm_commit(&bench, 0);
+    text_is("a committed action", &bench, DIKOTHELM_ACCEPTED, 2 * 9);
+    dikothelm_write(&bench, 63, 127);
+    text_is("a write set", &bench, DIKOTHELM_ACCEPTED, 2 * 9 + 37);
+    dikothelm_read(&bench, 63, 127);
+    text_is("both sets of one instrument", &bench, DIKOTHELM_ACCEPTED, 2 * 9 + 37);
+    dikothelm_read(&bench, 63, 0);
+    text_is("two instruments", &bench, DIKOTHELM_ACCEPTED, 2 * 9 + 2 * 37);
+    broken = bench;
+    broken.actions[DIKOTHELM_ACTIONS + 63] = DIKOTHELM_COMMITTED;
+    text_is("a committed top action", &broken, DIKOTHELM_UNSOUND, 0);
+    broken = bench;
+    broken.actions[5] = 1 + 63;
+    text_is("a free number with a parent", &broken, DIKOTHELM_UNSOUND, 0);
+    broken = bench;
+    broken.owners[7] = (uint64_t)1 << 5;
+    text_is("a free number in a set", &broken, DIKOTHELM_UNSOUND, 0);
+    broken = bench;
+    broken.actions[0] = 1 + 5;
+    text_is("a free parent", &broken, DIKOTHELM_UNSOUND, 0);
+    broken = bench;
+    broken.actions[63] = 1 + 0;
+    text_is("parents that run round", &broken, DIKOTHELM_UNSOUND, 0);
+    broken = bench;
+    broken.actions[1] = 1 + 0;
+    broken.actions[DIKOTHELM_ACTIONS + 1] = DIKOTHELM_RUNNING;
+    text_is("a running action under a committed one", &broken, DIKOTHELM_UNSOUND, 0);
+    broken = bench;
+    broken.actions[0] = 65;
+    text_is("a parent above 63", &broken, DIKOTHELM_UNSOUND, 0);
+    broken = bench;
+    broken.actions[DIKOTHELM_ACTIONS + 0] = 3;
+    text_is("a state that means nothing", &broken, DIKOTHELM_UNSOUND, 0);
+    memset(&bench, 0, sizeof bench);
+    for (k = 0; k < DIKOTHELM_ACTIONS; k++) dikothelm_open_top(&bench, k);
+    for (k = 0; k < DIKOTHELM_INSTRUMENTS; k++) dikothelm_write(&bench, k / 2, k);
+    text_is("the longest text", &bench, DIKOTHELM_ACCEPTED, DIKOTHELM_LONGEST_TEXT);
+}
+
+/* Plays a trace to its end, lending at each call `room` bytes, at least 3 and at most 600, for the answers, and returns how many bytes of answers came. */
+static size_t play_whole(dikothelm_bench *bench, const uint8_t *trace, size_t length, size_t room, uint8_t *said) {
+    uint64_t progress[DIKOTHELM_PROGRESS] = {0, 0, 0, 0};
+    uint8_t out[600 + 1];
+    size_t at = 0, written = 0, k;
+    int ended = 0;
+    while (!ended) {
+        const size_t fits = room / 3 < length - at ? room / 3 : length - at;
+        memset(out, 0xaa, sizeof out);
+        if (at < length) {
+            SAME(dikothelm_play(bench, progress, trace + at, length - at, out, room), 0);
+            SAME(progress[DIKOTHELM_TAKEN], fits);
+            SAME(progress[DIKOTHELM_DIGITS] == 0, trace[at + fits - 1] == '\n');
+        } else {
+            const int begun = length > 0 && trace[length - 1] != '\n';
+            SAME(dikothelm_finish(bench, progress, out, room), 0);
+            SAME(progress[DIKOTHELM_TAKEN], 0);
+            SAME(progress[DIKOTHELM_WRITTEN], begun ? 3 : 0);
+            SAME(progress[DIKOTHELM_DIGITS], 0);
+            ended = 1;
+        }
+        at += fits;
+        memcpy(said + written, out, (size_t)progress[DIKOTHELM_WRITTEN]);
+        written += (size_t)progress[DIKOTHELM_WRITTEN];
+        for (k = (size_t)progress[DIKOTHELM_WRITTEN]; k < sizeof out; k++)
+            if (out[k] != 0xaa) SAME(k, sizeof out);
+        if (failed) return written;
+    }
+    return written;
+}
+
+/* A trace from an empty bench, with so much room at each call. */
+static void played_with_room(size_t room) {
     static const char trace[] = "0101\n020201\n020301\n040205\n030305\nxx\n\n0502\n030305";
     static const char expected[] = "00\n00\n00\n00\n06\n08\n08\n00\n00\n";
-    const size_t length = sizeof trace - 1;
     dikothelm_bench bench;
-    uint64_t progress[DIKOTHELM_PROGRESS] = {0, 0, 0, 0};
-    char said[64];
-    size_t at = 0, written = 0;
+    uint8_t said[64];
     dikothelm_empty(&bench);
-    while (at < length) {
-        uint8_t out[3 * 64];
-        memset(out, 0xaa, sizeof out);
-        SAME(dikothelm_play(&bench, progress, (const uint8_t *)trace + at, length - at, out, 3 * piece), 0);
-        if (progress[DIKOTHELM_TAKEN] < 1 || progress[DIKOTHELM_TAKEN] > piece || progress[DIKOTHELM_WRITTEN] > 3 * piece) {
-            puts("play took or wrote too much or nothing");
-            failed = 1;
-            return;
-        }
-        memcpy(said + written, out, (size_t)progress[DIKOTHELM_WRITTEN]);
-        at += (size_t)progress[DIKOTHELM_TAKEN];
-        written += (size_t)progress[DIKOTHELM_WRITTEN];
-    }
-    if (progress[DIKOTHELM_DIGITS] != 0) {
-        uint8_t out[3];
-        SAME(dikothelm_play(&bench, progress, (const uint8_t *)"\n", 1, out, 3), 0);
-        SAME(progress[DIKOTHELM_WRITTEN], 3);
-        memcpy(said + written, out, 3);
-        written += 3;
-    }
-    SAME(progress[DIKOTHELM_DIGITS], 0);
-    SAME(written, sizeof expected - 1);
+    SAME(play_whole(&bench, (const uint8_t *)trace, sizeof trace - 1, room, said), sizeof expected - 1);
     SAME(memcmp(said, expected, sizeof expected - 1), 0);
     SAME(dikothelm_readers(&bench, 5), 8);
+}
+
+/* A bench with 1 running; it would accept each of these frames. */
+static const char *const frames[] = {"0107", "020701", "030105", "040105", "0501", "0601"};
+static dikothelm_bench with_1_running(void) {
+    dikothelm_bench bench;
+    dikothelm_empty(&bench);
+    dikothelm_open_top(&bench, 1);
+    return bench;
+}
+
+/* The line, without its newline, is no request: with its newline and as a last line without it, it gets 8 and changes nothing. */
+static void malformed(const uint8_t *line, size_t length, size_t room) {
+    static uint8_t trace[140000], said[16];
+    dikothelm_bench bench = with_1_running();
+    const dikothelm_bench before = bench;
+    memcpy(trace, line, length);
+    trace[length] = '\n';
+    memset(said, 0, sizeof said);
+    if (play_whole(&bench, trace, length, room, said) != 3 || memcmp(said, "08\n", 3) != 0 || play_whole(&bench, trace, length + 1, room, said) != 3 ||
+        memcmp(said, "08\n", 3) != 0 || memcmp(&bench, &before, sizeof bench) != 0) {
+        printf("a line of %lu characters, %02x %02x %02x %02x .., is answered %c%c or changes something\n", (unsigned long)length, trace[0], trace[1],
+               trace[2], trace[3], said[0], said[1]);
+        failed = 1;
+    }
+}
+
+static void lines_that_look_right(void) {
+    static const char *const lines[] = {"010A", "010a0", "03010500", "0301 05", " 030105", "030105 ", "030105\r", "0x0107", "1",   "01",
+                                        "010",  "03015", "0701",     "00",      "0101ff",  "FF",      "x",        "+107",   "01\t7"};
+    static const size_t digits[] = {8, 10, 256, 258, 260, 262, 512, 516, 518, 65536, 65540, 65542};
+    static uint8_t line[140000];
+    size_t f, k, place;
+    unsigned byte;
+    for (k = 0; k < sizeof lines / sizeof *lines; k++) malformed((const uint8_t *)lines[k], strlen(lines[k]), 3 + k);
+    for (f = 0; f < 6; f++) {
+        const size_t length = strlen(frames[f]);
+        dikothelm_bench bench = with_1_running();
+        uint8_t said[3];
+        SAME(play_whole(&bench, (const uint8_t *)frames[f], length, 60, said), 3);
+        SAME(memcmp(said, "00\n", 3), 0);
+        for (k = 0; k < sizeof digits / sizeof *digits; k++) { /* padded with zeros, behind and before */
+            memset(line, '0', digits[k]);
+            memcpy(line, frames[f], length);
+            malformed(line, digits[k], 600);
+            memset(line, '0', digits[k]);
+            memcpy(line + digits[k] - length, frames[f], length);
+            malformed(line, digits[k], 600);
+        }
+        for (byte = 0; byte < 256; byte++) {
+            if ((byte >= '0' && byte <= '9') || (byte >= 'a' && byte <= 'f') || byte == '\n') continue;
+            for (place = 0; place <= length; place++) { /* in a digit's place, and between digits */
+                memcpy(line, frames[f], length);
+                line[place] = (uint8_t)byte;
+                malformed(line, place < length ? length : length + 1, 3 + byte % 40);
+                memmove(line + place + 1, frames[f] + place, length - place);
+                malformed(line, length + 1, 3 + byte % 40);
+            }
+        }
+    }
+}
+
+static void long_lines(void) {
+    static const uint8_t bytes[] = {'0', 'f', '\r', 0, 0x80, 0xff};
+    static uint8_t line[140000];
+    size_t k, length;
+    for (k = 0; k < sizeof bytes; k++) {
+        memset(line, bytes[k], sizeof line);
+        for (length = 250; length <= 270; length++) malformed(line, length, 600);
+        malformed(line, 10000, 3);
+        for (length = 65530; length <= 65550; length += 4) malformed(line, length, 600);
+        malformed(line, 131072 + 4, 600);
+    }
+}
+
+/* Every state of a line: none, each beginning of a frame, a whole frame, more digits, and other bytes. In each, no room and no input take nothing, and the end
+   of the input answers a begun line where there is room. */
+static void states_of_a_line(const char *line, const char *answer, int unsound) {
+    const size_t length = strlen(line);
+    dikothelm_bench bench = with_1_running(), before;
+    uint64_t progress[DIKOTHELM_PROGRESS] = {0, 0, 0, 0};
+    uint64_t digits, value;
+    uint8_t out[200];
+    size_t room;
+    if (unsound) bench.owners[0] = (uint64_t)1 << 63;
+    before = bench;
+    memset(out, 0xaa, sizeof out);
+    SAME(dikothelm_play(&bench, progress, (const uint8_t *)line, length, out, sizeof out), 0);
+    SAME(progress[DIKOTHELM_TAKEN], length);
+    SAME(progress[DIKOTHELM_WRITTEN], 0);
+    SAME(progress[DIKOTHELM_DIGITS] != 0, length != 0);
+    digits = progress[DIKOTHELM_DIGITS];
+    value = progress[DIKOTHELM_VALUE];
+    for (room = 0; room < 3; room++) {
+        progress[DIKOTHELM_TAKEN] = progress[DIKOTHELM_WRITTEN] = 9;
+        SAME(dikothelm_play(&bench, progress, (const uint8_t *)"\n0101\n", 6, out, room), 0);
+        SAME(progress[DIKOTHELM_TAKEN], 0);
+        SAME(progress[DIKOTHELM_WRITTEN], 0);
+        progress[DIKOTHELM_TAKEN] = progress[DIKOTHELM_WRITTEN] = 9;
+        SAME(dikothelm_finish(&bench, progress, out, room), 0);
+        SAME(progress[DIKOTHELM_TAKEN], 0);
+        SAME(progress[DIKOTHELM_WRITTEN], 0);
+        SAME(dikothelm_play(&bench, progress, (const uint8_t *)"\n", 0, out, sizeof out), 0);
+        SAME(progress[DIKOTHELM_DIGITS], digits);
+        SAME(progress[DIKOTHELM_VALUE], value);
+    }
+    SAME(memcmp(&bench, &before, sizeof bench), 0);
+    SAME(out[0], 0xaa);
+    progress[DIKOTHELM_TAKEN] = 9;
+    SAME(dikothelm_finish(&bench, progress, out, 3), 0);
+    SAME(progress[DIKOTHELM_TAKEN], 0);
+    SAME(progress[DIKOTHELM_WRITTEN], strlen(answer));
+    SAME(progress[DIKOTHELM_DIGITS], 0);
+    SAME(memcmp(out, length == 0 ? "\xaa\xaa\xaa\xaa" : answer, length == 0 ? 4 : 3), 0);
+    SAME(out[3], 0xaa);
+    SAME(memcmp(&bench, &before, sizeof bench) == 0, strcmp(answer, "00\n") != 0);
+    before = bench;
+    progress[DIKOTHELM_WRITTEN] = 9;
+    SAME(dikothelm_finish(&bench, progress, out, sizeof out), 0); /* again: nothing is left to answer */
+    SAME(progress[DIKOTHELM_WRITTEN], 0);
+    SAME(memcmp(&bench, &before, sizeof bench), 0);
+}
+
+static void ends_of_input(void) {
+    static const char *const others[] = {"x", "\x80", "\xff", "\r", "0107x", "0301050", "03010500", "ffffffffffffffff"};
+    char line[8];
+    size_t f, k;
+    int unsound;
+    for (unsound = 0; unsound <= 1; unsound++) {
+        states_of_a_line("", "", unsound);
+        for (f = 0; f < 6; f++) {
+            for (k = 1; k <= strlen(frames[f]); k++) {
+                memcpy(line, frames[f], k);
+                line[k] = 0;
+                states_of_a_line(line, k < strlen(frames[f]) ? "08\n" : unsound ? "07\n" : "00\n", unsound);
+            }
+        }
+        states_of_a_line("030180", unsound ? "07\n" : "02\n", unsound);
+        states_of_a_line("0140", unsound ? "07\n" : "01\n", unsound);
+        for (k = 0; k < sizeof others / sizeof *others; k++) states_of_a_line(others[k], "08\n", unsound);
+    }
+}
+
+/* NULL with length 0 is an empty slice, in every place. */
+static void null_with_length_0(void) {
+    dikothelm_bench bench = with_1_running();
+    const dikothelm_bench before = bench;
+    uint64_t progress[DIKOTHELM_PROGRESS] = {0, 0, 0, 0};
+    uint8_t out[6];
+    size_t count = 77;
+    memset(out, 0xaa, sizeof out);
+    SAME(dikothelm_image_empty(NULL, 0, NULL, 0), 7);
+    SAME(dikothelm_image_empty(bench.actions, 128, NULL, 0), 7);
+    SAME(dikothelm_image_empty(NULL, 0, bench.owners, 256), 7);
+    SAME(dikothelm_image_sound(NULL, 0, NULL, 0), 7);
+    SAME(dikothelm_image_open_top(NULL, 0, NULL, 0, 1), 7);
+    SAME(dikothelm_image_open_sub(NULL, 0, NULL, 0, 2, 1), 7);
+    SAME(dikothelm_image_read(NULL, 0, NULL, 0, 1, 1), 7);
+    SAME(dikothelm_image_write(NULL, 0, NULL, 0, 1, 1), 7);
+    SAME(dikothelm_image_commit(NULL, 0, NULL, 0, 1), 7);
+    SAME(dikothelm_image_abort(NULL, 0, NULL, 0, 1), 7);
+    SAME(dikothelm_image_text_size(NULL, 0, NULL, 0, &count), 7);
+    SAME(count, 0);
+    count = 77;
+    SAME(dikothelm_image_save(NULL, 0, NULL, 0, NULL, 0, &count), 7);
+    SAME(count, 0);
+    SAME(dikothelm_image_load(NULL, 0, NULL, 0, NULL, 0), 7);
+    SAME(dikothelm_image_play(NULL, 0, NULL, 0, NULL, 0, NULL, 0, NULL, 0), 7);
+    SAME(dikothelm_image_play(bench.actions, 128, bench.owners, 256, NULL, 0, NULL, 0, NULL, 0), 7);
+    SAME(dikothelm_image_finish(NULL, 0, NULL, 0, NULL, 0, NULL, 0), 7);
+    SAME(dikothelm_image_finish(bench.actions, 128, bench.owners, 256, NULL, 0, NULL, 0), 7);
+    count = 77;
+    SAME(dikothelm_save(&bench, NULL, 0, &count), DIKOTHELM_NO_ROOM);
+    SAME(count, 0);
+    SAME(dikothelm_play(&bench, progress, NULL, 0, NULL, 0), 0);
+    SAME(dikothelm_play(&bench, progress, NULL, 0, out, sizeof out), 0);
+    SAME(dikothelm_play(&bench, progress, (const uint8_t *)"0102\n", 5, NULL, 0), 0);
+    SAME(progress[DIKOTHELM_TAKEN], 0);
+    SAME(dikothelm_finish(&bench, progress, NULL, 0), 0);
+    SAME(out[0], 0xaa);
+    SAME(memcmp(&bench, &before, sizeof bench), 0);
+    SAME(dikothelm_load(&bench, NULL, 0), 0);
+    count = 77;
+    SAME(dikothelm_save(&bench, NULL, 0, &count), 0);
+    SAME(count, 0);
+    SAME(dikothelm_state(&bench, 1), DIKOTHELM_FREE);
 }
 
 /* Every function with a record of other lengths: 7, and nothing changes. */
@@ -179,6 +435,7 @@ static void other_lengths(size_t many_actions, size_t many_owners, size_t many_p
     actions[1] = 0x5a; /* changed if this were emptied or loaded */
     memset(out, 0xaa, sizeof out);
     memset(progress, 0, sizeof progress);
+    progress[DIKOTHELM_DIGITS] = 7; /* a line to end, if it were ended */
     memcpy(old_actions, actions, sizeof actions);
     memcpy(old_owners, owners, sizeof owners);
     memcpy(old_out, out, sizeof out);
@@ -194,9 +451,13 @@ static void other_lengths(size_t many_actions, size_t many_owners, size_t many_p
         SAME(dikothelm_image_abort(actions, many_actions, owners, many_owners, 1), 7);
         SAME(dikothelm_image_save(actions, many_actions, owners, many_owners, out, sizeof out, &count), 7);
         SAME(count, 0);
+        count = 77;
+        SAME(dikothelm_image_text_size(actions, many_actions, owners, many_owners, &count), 7);
+        SAME(count, 0);
         SAME(dikothelm_image_load(actions, many_actions, owners, many_owners, (const uint8_t *)"", 0), 7);
     }
     SAME(dikothelm_image_play(actions, many_actions, owners, many_owners, progress, many_progress, (const uint8_t *)"0101\n", 5, out, sizeof out), 7);
+    SAME(dikothelm_image_finish(actions, many_actions, owners, many_owners, progress, many_progress, out, sizeof out), 7);
     SAME(memcmp(actions, old_actions, sizeof actions), 0);
     SAME(memcmp(owners, old_owners, sizeof owners), 0);
     SAME(memcmp(out, old_out, sizeof out), 0);
@@ -204,12 +465,20 @@ static void other_lengths(size_t many_actions, size_t many_owners, size_t many_p
 }
 
 static void answers_in_words(void) {
-    int one, other;
-    for (one = 0; one <= 9; one++)
-        for (other = 0; other < one; other++)
-            SAME(strcmp(dikothelm_says((enum dikothelm_answer)one), dikothelm_says((enum dikothelm_answer)other)) != 0, 1);
-    SAME(strcmp(dikothelm_says(DIKOTHELM_ACCEPTED), "accepted"), 0);
-    SAME(strcmp(dikothelm_says(DIKOTHELM_RUNNING_CHILD), "it has a running child"), 0);
+    static const char *const words[] = {"accepted",
+                                        "no such action number",
+                                        "no such instrument",
+                                        "the number isn't free",
+                                        "the acting number isn't running",
+                                        "it has a running child",
+                                        "not granted: an action that is no ancestor owns it",
+                                        "the record isn't sound",
+                                        "malformed",
+                                        "the buffer is too short"};
+    int number;
+    for (number = 0; number <= 9; number++) SAME(strcmp(dikothelm_says((enum dikothelm_answer)number), words[number]), 0);
+    SAME(strcmp(dikothelm_says((enum dikothelm_answer)10), "no answer of the table"), 0);
+    SAME(strcmp(dikothelm_says((enum dikothelm_answer)15), "no answer of the table"), 0);
 }
 
 int main(void) {
@@ -219,7 +488,12 @@ int main(void) {
     numbers_at_the_edges();
     looking_at_a_bench();
     saved_and_loaded();
-    for (k = 1; k <= 64; k++) played_in_pieces(k);
+    text_sizes();
+    for (k = 3; k <= 200; k++) played_with_room(k);
+    lines_that_look_right();
+    long_lines();
+    ends_of_input();
+    null_with_length_0();
     for (k = 0; k < 6; k++) {
         other_lengths(actions[k], 256, 4);
         other_lengths(128, owners[k], 4);

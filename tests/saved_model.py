@@ -1,5 +1,7 @@
 """A plain reader and writer of the saved form, written from document 01 alone, over the model's records."""
 
+from functools import lru_cache
+
 import model
 
 MALFORMED = 8
@@ -21,12 +23,22 @@ NO_PARENT = 0xff
 # Sets as numbers: number n is bit n
 
 
+@lru_cache(maxsize=4096)
+def bits_together(owners):
+    return sum(2 ** n for n in owners)
+
+
+@lru_cache(maxsize=4096)
+def bits_apart(number):
+    return frozenset(n for n in range(number.bit_length()) if number >> n & 1)
+
+
 def as_number(owners):
-    return sum(2 ** n for n in owners) if owners else 0
+    return bits_together(frozenset(owners))
 
 
 def as_set(number):
-    return {n for n in range(number.bit_length()) if number >> n & 1}
+    return set(bits_apart(number))
 
 
 # Writing

@@ -1,8 +1,9 @@
-"""The reader and writer on document 01's saved form: each clause of what has another shape, texts that break a rule, and round trips."""
+"""The readers and writers on document 01's saved form: each clause of what has another shape, texts that break a rule, and round trips."""
 
 import sys
 
 import model
+import reload_model
 from model import ABORT, COMMIT, COMMITTED, OPEN_SUB, OPEN_TOP, READ, RUNNING, WRITE, Record, request
 from saved_model import LONGEST_TEXT, load, save, text_of
 
@@ -153,12 +154,15 @@ SAVES = {
 
 
 def failed_loads(texts, expected):
-    """The texts with another answer, or, refused, with another record than an empty one."""
+    """The texts with another answer by one of the readers, or, refused, with another record than an empty one, or, accepted, with another text saved again."""
     failed = []
     for name, text in texts.items():
         answer, record = load(as_bytes(text))
         if answer != expected or (answer != 0 and record != Record()):
             failed.append(f"load, {name}: expected {expected}, the reader gives {answer}")
+        again = as_bytes(text) if expected == model.ACCEPTED else None
+        if reload_model.reload(as_bytes(text)) != (expected, again):
+            failed.append(f"reload, {name}: expected {expected}, the other reader gives {reload_model.reload(as_bytes(text))}")
     return failed
 
 

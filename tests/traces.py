@@ -1,4 +1,7 @@
-"""Seeded traces for the player, each of a kind that puts weight on one part of the rules."""
+"""Traces for the player: seeded ones, each of a kind that puts weight on one part of the rules, and lines that are nearly a frame.
+
+A character of a trace is one byte: its code is the byte's value.
+"""
 
 import random
 
@@ -78,3 +81,72 @@ def trace(kind, seed, lines):
     while len(made.lines) < lines:
         made.step(weights, lambda: parent(made))
     return "\n".join(made.lines) + ("\n" if seed % 2 == 0 else "")
+
+
+# Lines that are nearly a frame: a bench on which each of these frames changes something, and lines that show what there is
+START = ["0101", "020201", "040205"]
+FRAMES = ["0103", "020302", "030206", "040207", "0502", "0602"]
+SHOWING = ["030205", "030305", "040105", "0109", "040906", "040907", "0609"]
+
+
+def shown(lines):
+    """A trace of the lines: each finds the bench of START, and what it leaves is shown before all is freed again."""
+    trace = []
+    for line in lines:
+        trace += START + [line] + SHOWING + ["0603", "0601"]
+    return "\n".join(trace) + "\n"
+
+
+def every_byte_at_every_place():
+    """Each frame with each place changed to each byte, and each byte put in at each place."""
+    for frame in FRAMES:
+        for at in range(len(frame) + 1):
+            for byte in map(chr, range(256)):
+                yield frame[:at] + byte + frame[at:]
+                if at < len(frame):
+                    yield frame[:at] + byte + frame[at + 1:]
+
+
+def every_code():
+    """Each code with none, one, two and three numbers."""
+    for code in range(256):
+        for numbers in ("", "03", "0302", "0206", "020600"):
+            yield "%02x%s" % (code, numbers)
+
+
+def padded(lengths):
+    """Each frame brought to each length with digits 0 behind it and before it, and behind it with itself over and over."""
+    for frame in FRAMES:
+        for length in lengths:
+            if length > len(frame):
+                yield frame.ljust(length, "0")
+                yield frame.rjust(length, "0")
+                yield (frame * length)[:length]
+
+
+def every_length():
+    """Up to 530 digits: a count of 8 bits that wraps takes 260 and 516 for 4, and 262 and 518 for 6."""
+    return padded(range(531))
+
+
+def thousands_of_digits():
+    """Lengths that a count of 12 to 16 bits takes for a frame's, or that come close to a buffer's."""
+    return padded([extra + size for extra in (4, 6) for size in (1024, 4096, 8184, 8192, 65536)])
+
+
+def thousands_of_characters():
+    """Long lines of other bytes, and frames in the middle of them."""
+    for byte in "\0\r x\x80\xff":
+        for length in (260, 8190, 8191, 8192, 8193, 65540):
+            yield byte * length
+            yield (byte * length)[4:] + "0103"
+            yield "0103" + (byte * length)[4:]
+
+
+NEARLY_FRAMES = {
+    "every byte at every place": every_byte_at_every_place,
+    "every code": every_code,
+    "every length": every_length,
+    "thousands of digits": thousands_of_digits,
+    "thousands of characters": thousands_of_characters,
+}

@@ -1,10 +1,13 @@
 use std::error::Error;
-use std::fmt;
+use std::{fmt, io};
+
+use crate::version::Version;
+use crate::{image, VERSION};
 
 /// Why a request, a save or a load was refused. The bench is then as it was.
 ///
 /// Where several apply, [`Unsound`](Refusal::Unsound) comes first and then the one with the lowest number; for a line or a text,
-/// [`Malformed`](Refusal::Malformed) comes before both.
+/// [`Malformed`](Refusal::Malformed) comes before both. [`OtherLibrary`](Refusal::OtherLibrary) is no answer of the table.
 ///
 /// ```
 /// use dikothelm::{Bench, Refusal};
@@ -16,6 +19,7 @@ use std::fmt;
 /// ```
 #[derive(Clone, Copy, Debug, PartialEq, Eq, PartialOrd, Ord, Hash)]
 #[repr(u8)]
+#[non_exhaustive]
 pub enum Refusal {
     /// 1: an action number is above 63.
     NoSuchAction = 1,
@@ -35,10 +39,12 @@ pub enum Refusal {
     Malformed = 8,
     /// 9: the buffer is shorter than the text.
     NoRoom = 9,
+    /// 255: the linked library isn't the one that this crate is for; [`check_library`](crate::check_library) says when.
+    OtherLibrary = 255,
 }
 
 impl Refusal {
-    const ALL: [Refusal; 9] = [
+    const OF_THE_TABLE: [Refusal; 9] = [
         Refusal::NoSuchAction,
         Refusal::NoSuchInstrument,
         Refusal::NotFree,
@@ -50,7 +56,7 @@ impl Refusal {
         Refusal::NoRoom,
     ];
 
-    /// The answer's number, 1 to 9.
+    /// The answer's number, 1 to 9, or 255.
     ///
     /// ```
     /// assert_eq!(dikothelm::Refusal::NotGranted.number(), 6);
@@ -59,24 +65,27 @@ impl Refusal {
     pub const fn number(self) -> u8 {
         self as u8
     }
+}
 
-    /// The refusal with that number, if it has one.
-    ///
-    /// ```
-    /// use dikothelm::Refusal;
-    /// assert_eq!(Refusal::from_number(6), Some(Refusal::NotGranted));
-    /// assert_eq!(Refusal::from_number(0), None);
-    /// assert_eq!(Refusal::from_number(10), None);
-    /// ```
-    #[must_use]
-    pub fn from_number(number: u8) -> Option<Refusal> {
-        Refusal::ALL.into_iter().find(|refusal| refusal.number() == number)
+/// The refusal of the table with that number, 1 to 9.
+///
+/// ```
+/// use dikothelm::Refusal;
+/// assert_eq!(Refusal::try_from(6), Ok(Refusal::NotGranted));
+/// assert!(Refusal::try_from(0).is_err());
+/// assert_eq!(Refusal::try_from(10).unwrap_err().to_string(), "no refusal has the number 10");
+/// ```
+impl TryFrom<u8> for Refusal {
+    type Error = UnknownNumber;
+
+    fn try_from(number: u8) -> Result<Refusal, UnknownNumber> {
+        Refusal::OF_THE_TABLE.into_iter().find(|refusal| refusal.number() == number).ok_or(UnknownNumber { what: "refusal", number })
     }
 }
 
 impl fmt::Display for Refusal {
     fn fmt(&self, f: &mut fmt::Formatter<'_>) -> fmt::Result {
-        f.write_str(match self {
+        let words = match self {
             Refusal::NoSuchAction => "no such action number",
             Refusal::NoSuchInstrument => "no such instrument",
             Refusal::NotFree => "the number isn't free",
@@ -86,11 +95,55 @@ impl fmt::Display for Refusal {
             Refusal::Unsound => "the record isn't sound",
             Refusal::Malformed => "malformed",
             Refusal::NoRoom => "the buffer is too short",
-        })
+            Refusal::OtherLibrary => {
+                let (linked, own) = (Version(image::version()), Version(VERSION));
+                return write!(f, "the linked libdikothelm.a, version {linked}, isn't the library that this crate, version {own}, is for");
+            }
+        };
+        f.write_str(words)
     }
 }
 
 impl Error for Refusal {}
+
+impl From<Refusal> for io::Error {
+    fn from(refusal: Refusal) -> io::Error {
+        io::Error::other(refusal)
+    }
+}
+
+/// A number that no answer, no refusal or no state has.
+///
+/// ```
+/// let unknown = dikothelm::Answer::try_from(10).unwrap_err();
+/// assert_eq!(unknown.number(), 10);
+/// assert_eq!(unknown.to_string(), "no answer has the number 10");
+/// ```
+#[derive(Clone, Copy, Debug, PartialEq, Eq, Hash)]
+pub struct UnknownNumber {
+    pub(crate) what: &'static str,
+    pub(crate) number: u8,
+}
+
+impl UnknownNumber {
+    /// The number.
+    ///
+    /// ```
+    /// assert_eq!(dikothelm::State::try_from(3).map_err(|unknown| unknown.number()), Err(3));
+    /// ```
+    #[must_use]
+    pub const fn number(self) -> u8 {
+        self.number
+    }
+}
+
+impl fmt::Display for UnknownNumber {
+    fn fmt(&self, f: &mut fmt::Formatter<'_>) -> fmt::Result {
+        write!(f, "no {} has the number {}", self.what, self.number)
+    }
+}
+
+impl Error for UnknownNumber {}
 
 /// An answer of the table: what a request's `Result` says, as one value to print or to number.
 ///
@@ -104,15 +157,16 @@ impl Error for Refusal {}
 /// assert_eq!(format!("{}, {}", answer.number(), answer), "3, the number isn't free");
 /// ```
 #[derive(Clone, Copy, Debug, PartialEq, Eq, PartialOrd, Ord, Hash)]
+#[non_exhaustive]
 pub enum Answer {
     /// 0: done.
     Accepted,
-    /// 1 to 9: refused.
+    /// Refused, and why.
     Refused(Refusal),
 }
 
 impl Answer {
-    /// The answer's number, 0 to 9.
+    /// The answer's number, 0 to 9, or 255.
     ///
     /// ```
     /// use dikothelm::{Answer, Refusal};
@@ -126,19 +180,23 @@ impl Answer {
             Answer::Refused(refusal) => refusal.number(),
         }
     }
+}
 
-    /// The answer with that number, if it has one.
-    ///
-    /// ```
-    /// use dikothelm::Answer;
-    /// assert_eq!(Answer::from_number(0), Some(Answer::Accepted));
-    /// assert_eq!(Answer::from_number(10), None);
-    /// ```
-    #[must_use]
-    pub fn from_number(number: u8) -> Option<Answer> {
+/// The answer of the table with that number, 0 to 9.
+///
+/// ```
+/// use dikothelm::{Answer, Refusal};
+/// assert_eq!(Answer::try_from(0), Ok(Answer::Accepted));
+/// assert_eq!(Answer::try_from(6), Ok(Answer::Refused(Refusal::NotGranted)));
+/// assert!(Answer::try_from(10).is_err());
+/// ```
+impl TryFrom<u8> for Answer {
+    type Error = UnknownNumber;
+
+    fn try_from(number: u8) -> Result<Answer, UnknownNumber> {
         match number {
-            0 => Some(Answer::Accepted),
-            _ => Refusal::from_number(number).map(Answer::Refused),
+            0 => Ok(Answer::Accepted),
+            _ => Refusal::try_from(number).map(Answer::Refused).map_err(|unknown| UnknownNumber { what: "answer", ..unknown }),
         }
     }
 }
@@ -170,10 +228,7 @@ impl From<Answer> for Result<(), Refusal> {
     }
 }
 
-/// What the proved library's number means.
+/// What the library's number means. The proved one gives no number but the table's.
 pub(crate) fn answered(number: u8) -> Result<(), Refusal> {
-    match Answer::from_number(number) {
-        Some(answer) => answer.into(),
-        None => unreachable!("the library answers 0 to 9"),
-    }
+    Answer::try_from(number).map_err(|_| Refusal::OtherLibrary)?.into()
 }

@@ -1,7 +1,7 @@
 use std::fmt;
 
-use crate::answer::answered;
-use crate::image;
+use crate::answer::{answered, UnknownNumber};
+use crate::{check_library, image};
 use crate::{Numbers, Refusal, ACTIONS, INSTRUMENTS, LONGEST_TEXT};
 
 const NUMBERS: usize = ACTIONS as usize;
@@ -20,18 +20,53 @@ const SETS: usize = INSTRUMENTS as usize;
 /// # Ok::<(), dikothelm::Refusal>(())
 /// ```
 #[derive(Clone, Copy, Debug, PartialEq, Eq, Hash)]
+#[repr(u8)]
+#[non_exhaustive]
 pub enum State {
-    /// Not in use.
-    Free,
-    /// Open: it may ask, commit and abort.
-    Running,
-    /// A subaction that has committed; its number stays in use until its family ends, and its locks count as its parent's.
-    Committed,
+    /// 0: not in use.
+    Free = 0,
+    /// 1: open. It may ask, commit and abort.
+    Running = 1,
+    /// 2: a subaction that has committed. Its number stays in use until its family ends, and its locks count as its parent's.
+    Committed = 2,
+}
+
+impl State {
+    /// The state's number in a record.
+    ///
+    /// ```
+    /// assert_eq!(dikothelm::State::Committed.number(), 2);
+    /// ```
+    #[must_use]
+    pub const fn number(self) -> u8 {
+        self as u8
+    }
+}
+
+/// The state with that number in a record.
+///
+/// ```
+/// use dikothelm::State;
+/// assert_eq!(State::try_from(2), Ok(State::Committed));
+/// assert_eq!(State::try_from(3).unwrap_err().to_string(), "no state has the number 3");
+/// ```
+impl TryFrom<u8> for State {
+    type Error = UnknownNumber;
+
+    fn try_from(number: u8) -> Result<State, UnknownNumber> {
+        match number {
+            0 => Ok(State::Free),
+            1 => Ok(State::Running),
+            2 => Ok(State::Committed),
+            _ => Err(UnknownNumber { what: "state", number }),
+        }
+    }
 }
 
 /// A bench: which action numbers are in use, and which actions read and write which instruments.
 ///
-/// Requests change it in place and leave it as it was where they are refused. `Debug` shows who owns what.
+/// Requests change it in place and leave it as it was where they are refused. `Debug` shows who owns what. Besides the errors that each method names,
+/// all give [`Refusal::OtherLibrary`] where [`check_library`] does.
 ///
 /// ```
 /// use dikothelm::{Bench, Refusal};
@@ -109,7 +144,7 @@ impl Bench {
         &self.owners
     }
 
-    /// Whether the record is sound. Every bench that came of requests or of a load is.
+    /// Whether the record is sound. Every bench that came of requests or of a load is. Where [`check_library`] gives an error none is called sound.
     ///
     /// ```
     /// use dikothelm::Bench;
@@ -118,7 +153,7 @@ impl Bench {
     /// ```
     #[must_use]
     pub fn is_sound(&self) -> bool {
-        image::sound(&self.actions, &self.owners) == 0
+        check_library().is_ok() && image::sound(&self.actions, &self.owners) == 0
     }
 
     /// Makes n a running top action.
@@ -135,7 +170,7 @@ impl Bench {
     /// assert_eq!(bench.open_top(64), Err(Refusal::NoSuchAction));
     /// ```
     pub fn open_top(&mut self, n: u32) -> Result<(), Refusal> {
-        answered(image::open_top(&mut self.actions, &mut self.owners, n))
+        self.ask(|actions, owners| image::open_top(actions, owners, n))
     }
 
     /// Makes n a running action under p, which may have many running children.
@@ -154,7 +189,7 @@ impl Bench {
     /// # Ok::<(), Refusal>(())
     /// ```
     pub fn open_sub(&mut self, n: u32, p: u32) -> Result<(), Refusal> {
-        answered(image::open_sub(&mut self.actions, &mut self.owners, n, p))
+        self.ask(|actions, owners| image::open_sub(actions, owners, n, p))
     }
 
     /// Lets a read instrument i, if every write owner of i is a or an ancestor of a.
@@ -175,7 +210,7 @@ impl Bench {
     /// # Ok::<(), Refusal>(())
     /// ```
     pub fn read(&mut self, a: u32, i: u32) -> Result<(), Refusal> {
-        answered(image::read(&mut self.actions, &mut self.owners, a, i))
+        self.ask(|actions, owners| image::read(actions, owners, a, i))
     }
 
     /// Lets a write instrument i, if every owner of i, reading or writing, is a or an ancestor of a.
@@ -195,7 +230,7 @@ impl Bench {
     /// # Ok::<(), Refusal>(())
     /// ```
     pub fn write(&mut self, a: u32, i: u32) -> Result<(), Refusal> {
-        answered(image::write(&mut self.actions, &mut self.owners, a, i))
+        self.ask(|actions, owners| image::write(actions, owners, a, i))
     }
 
     /// Commits a. A subaction's locks pass to its parent; a top action and all its descendants become free and their locks go.
@@ -217,7 +252,7 @@ impl Bench {
     /// # Ok::<(), Refusal>(())
     /// ```
     pub fn commit(&mut self, a: u32) -> Result<(), Refusal> {
-        answered(image::commit(&mut self.actions, &mut self.owners, a))
+        self.ask(|actions, owners| image::commit(actions, owners, a))
     }
 
     /// Aborts a: it and all its descendants, running or committed, become free and their locks go.
@@ -236,7 +271,27 @@ impl Bench {
     /// # Ok::<(), Refusal>(())
     /// ```
     pub fn abort(&mut self, a: u32) -> Result<(), Refusal> {
-        answered(image::abort(&mut self.actions, &mut self.owners, a))
+        self.ask(|actions, owners| image::abort(actions, owners, a))
+    }
+
+    /// How many bytes the bench's text has, at most [`LONGEST_TEXT`].
+    ///
+    /// # Errors
+    /// [`Unsound`](Refusal::Unsound).
+    ///
+    /// ```
+    /// use dikothelm::{Bench, Refusal};
+    ///
+    /// let mut bench = Bench::new();
+    /// assert_eq!(bench.text_size(), Ok(0));
+    /// bench.open_top(1)?;
+    /// assert_eq!(bench.text_size(), Ok(9));
+    /// assert_eq!(bench.save_into(&mut [0; 9]), Ok(9));
+    /// # Ok::<(), Refusal>(())
+    /// ```
+    pub fn text_size(&self) -> Result<usize, Refusal> {
+        check_library()?;
+        counted(image::text_size(&self.actions, &self.owners), LONGEST_TEXT)
     }
 
     /// The bench as text.
@@ -277,8 +332,8 @@ impl Bench {
     /// # Ok::<(), Refusal>(())
     /// ```
     pub fn save_into(&self, out: &mut [u8]) -> Result<usize, Refusal> {
-        let (answer, count) = image::save(&self.actions, &self.owners, out);
-        answered(answer).map(|()| count)
+        check_library()?;
+        counted(image::save(&self.actions, &self.owners, out), out.len())
     }
 
     /// The bench that a text saved. Empty text is the empty bench.
@@ -296,7 +351,7 @@ impl Bench {
     /// ```
     pub fn load(text: &[u8]) -> Result<Bench, Refusal> {
         let mut bench = Bench::new();
-        answered(image::load(&mut bench.actions, &mut bench.owners, text)).map(|()| bench)
+        bench.ask(|actions, owners| image::load(actions, owners, text)).map(|()| bench)
     }
 
     /// The state of number n; `None` for a number above 63, and for a byte of an unsound record that means nothing.
@@ -311,15 +366,11 @@ impl Bench {
         if n >= ACTIONS {
             return None;
         }
-        match self.actions[NUMBERS + n as usize] {
-            0 => Some(State::Free),
-            1 => Some(State::Running),
-            2 => Some(State::Committed),
-            _ => None,
-        }
+        State::try_from(self.actions[NUMBERS + n as usize]).ok()
     }
 
-    /// The parent of number n; `None` for a top action, a free number and a number above 63.
+    /// The parent that the record has for number n, if any: on a sound bench a top action and a free number have none. An unsound record may have one for a
+    /// free number too, and any up to 254. `None` for a number above 63.
     ///
     /// ```
     /// let mut bench = dikothelm::Bench::new();
@@ -430,8 +481,24 @@ impl Bench {
         Numbers::from(numbers.iter().filter_map(|n| self.heir(n)).fold(0, |bits, heir| bits | 1 << heir))
     }
 
+    /// Asks the library, if it is this crate's.
+    fn ask(&mut self, call: impl FnOnce(&mut [u8], &mut [u64]) -> u8) -> Result<(), Refusal> {
+        check_library()?;
+        answered(call(&mut self.actions, &mut self.owners))
+    }
+
     pub(crate) fn image_mut(&mut self) -> (&mut [u8], &mut [u64]) {
         (&mut self.actions, &mut self.owners)
+    }
+}
+
+/// What an answer with a count means. The proved library's count is within its limit.
+fn counted((answer, count): (u8, usize), limit: usize) -> Result<usize, Refusal> {
+    answered(answer)?;
+    if count <= limit {
+        Ok(count)
+    } else {
+        Err(Refusal::OtherLibrary)
     }
 }
 

@@ -3,8 +3,9 @@
 //! `actions` has 128 bytes: the parents of numbers 0 to 63 (0: none, else the parent's number + 1), then their states (0 free, 1 running, 2 committed).
 //! `owners` has 256 words: the read sets of instruments 0 to 127, then their write sets (bit k: number k). A record of other lengths gets 7.
 //!
-//! Every answer is its number; [`Answer::from_number`](crate::Answer::from_number) gives it a name. Whatever the answer but 0, nothing changes, except that
-//! a refused [`load`] leaves an empty bench. Most programs want [`Bench`](crate::Bench) instead.
+//! Every answer is its number; [`Answer::try_from`](crate::Answer) gives it a name. Whatever the answer but 0, nothing changes, except that a refused
+//! [`load`] leaves an empty bench. Nothing here looks at the library's version first, as [`check_library`](crate::check_library) does. Most programs want
+//! [`Bench`](crate::Bench) instead.
 //!
 //! ```
 //! use dikothelm::image;
@@ -19,6 +20,7 @@
 //! slice's length, the C side stays within that length, what is passed as `&mut` overlaps nothing else that is passed, and nothing is kept after the call.
 
 extern "C" {
+    fn dikothelm_version() -> u32;
     fn dikothelm_image_empty(actions: *mut u8, actions_length: usize, owners: *mut u64, owners_length: usize) -> u8;
     fn dikothelm_image_sound(actions: *const u8, actions_length: usize, owners: *const u64, owners_length: usize) -> u8;
     fn dikothelm_image_open_top(actions: *mut u8, actions_length: usize, owners: *mut u64, owners_length: usize, n: u32) -> u8;
@@ -27,6 +29,7 @@ extern "C" {
     fn dikothelm_image_write(actions: *mut u8, actions_length: usize, owners: *mut u64, owners_length: usize, a: u32, i: u32) -> u8;
     fn dikothelm_image_commit(actions: *mut u8, actions_length: usize, owners: *mut u64, owners_length: usize, a: u32) -> u8;
     fn dikothelm_image_abort(actions: *mut u8, actions_length: usize, owners: *mut u64, owners_length: usize, a: u32) -> u8;
+    fn dikothelm_image_text_size(actions: *const u8, actions_length: usize, owners: *const u64, owners_length: usize, count: *mut usize) -> u8;
     fn dikothelm_image_save(
         actions: *const u8,
         actions_length: usize,
@@ -56,6 +59,27 @@ extern "C" {
         out: *mut u8,
         out_length: usize,
     ) -> u8;
+    fn dikothelm_image_finish(
+        actions: *mut u8,
+        actions_length: usize,
+        owners: *mut u64,
+        owners_length: usize,
+        progress: *mut u64,
+        progress_length: usize,
+        out: *mut u8,
+        out_length: usize,
+    ) -> u8;
+}
+
+/// The version of the linked library: major × 65536 + minor × 256 + patch.
+///
+/// ```
+/// assert_eq!(dikothelm::image::version() / 256, 2); // 0.2
+/// ```
+#[must_use]
+pub fn version() -> u32 {
+    // SAFETY: it takes nothing.
+    unsafe { dikothelm_version() }
 }
 
 /// Makes the record an empty bench: 0, or 7 for another length.
@@ -161,6 +185,23 @@ pub fn abort(actions: &mut [u8], owners: &mut [u64], a: u32) -> u8 {
     unsafe { dikothelm_image_abort(actions.as_mut_ptr(), actions.len(), owners.as_mut_ptr(), owners.len(), a) }
 }
 
+/// How many bytes the record's text has: the answer, 0 or 7, and the count, 0 where refused.
+///
+/// ```
+/// use dikothelm::image;
+/// let (mut actions, mut owners) = ([0; 128], [0; 256]);
+/// assert_eq!(image::open_top(&mut actions, &mut owners, 3), 0);
+/// assert_eq!(image::text_size(&actions, &owners), (0, 9));
+/// assert_eq!(image::text_size(&actions, &owners[1..]), (7, 0));
+/// ```
+#[must_use]
+pub fn text_size(actions: &[u8], owners: &[u64]) -> (u8, usize) {
+    let mut count = 0;
+    // SAFETY: pointers and lengths of two slices, only read; `count` is lent to write and overlaps nothing.
+    let answer = unsafe { dikothelm_image_text_size(actions.as_ptr(), actions.len(), owners.as_ptr(), owners.len(), &mut count) };
+    (answer, count)
+}
+
 /// Writes the record as text to the start of `out`: the answer, 0, 7 or 9, and how many bytes were written, 0 where refused. Bytes behind them stay.
 ///
 /// ```
@@ -191,7 +232,8 @@ pub fn load(actions: &mut [u8], owners: &mut [u64], text: &[u8]) -> u8 {
     unsafe { dikothelm_image_load(actions.as_mut_ptr(), actions.len(), owners.as_mut_ptr(), owners.len(), text.as_ptr(), text.len()) }
 }
 
-/// Plays the first bytes of `input`, no more than a third of `out`'s length: 0, or 7 where the record or `progress` has another length.
+/// Plays the first bytes of `input`, one for each three of `out`, or all: 0, or 7 where the record or `progress` has another length. An `out` below three
+/// bytes takes nothing.
 ///
 /// `progress` has four words, all 0 before the first call: digits and value of a line that has begun, then how many bytes of the input this call took and
 /// how many bytes of answers it wrote. [`Player`](crate::Player) does all this by itself.
@@ -215,6 +257,37 @@ pub fn play(actions: &mut [u8], owners: &mut [u64], progress: &mut [u64], input:
             progress.len(),
             input.as_ptr(),
             input.len(),
+            out.as_mut_ptr(),
+            out.len(),
+        )
+    }
+}
+
+/// Ends the input that was played: a last line without its newline is answered if it has a character, and nothing else is done. 0, or 7 where the record or
+/// `progress` has another length.
+///
+/// `progress` says then that 0 bytes were taken and 0 or 3 written. Where `out` has fewer than three bytes a begun line stays begun.
+///
+/// ```
+/// use dikothelm::image;
+/// let (mut actions, mut owners, mut progress, mut out) = ([0; 128], [0; 256], [0; 4], [0; 64]);
+/// assert_eq!(image::play(&mut actions, &mut owners, &mut progress, b"0107", &mut out), 0);
+/// assert_eq!(progress[3], 0);
+/// assert_eq!(image::finish(&mut actions, &mut owners, &mut progress, &mut out), 0);
+/// assert_eq!(progress, [0, 0, 0, 3]);
+/// assert_eq!(&out[..3], b"00\n");
+/// ```
+#[must_use]
+pub fn finish(actions: &mut [u8], owners: &mut [u64], progress: &mut [u64], out: &mut [u8]) -> u8 {
+    // SAFETY: pointers and lengths of four slices that are lent to write and so don't overlap.
+    unsafe {
+        dikothelm_image_finish(
+            actions.as_mut_ptr(),
+            actions.len(),
+            owners.as_mut_ptr(),
+            owners.len(),
+            progress.as_mut_ptr(),
+            progress.len(),
             out.as_mut_ptr(),
             out.len(),
         )

@@ -18,7 +18,7 @@
 //! ```
 //!
 //! The six requests, saving, loading and playing are the proved library's; what this crate adds around them is plain Rust, tested and not proved. Nothing
-//! panics, whatever numbers are asked and whatever a record holds.
+//! panics, whatever numbers are asked, whatever a record holds, and whatever library is linked.
 
 #![deny(missing_docs)]
 #![deny(unsafe_code)]
@@ -29,11 +29,13 @@ mod bench;
 pub mod image;
 mod numbers;
 mod player;
+mod version;
 
-pub use answer::{Answer, Refusal};
+pub use answer::{Answer, Refusal, UnknownNumber};
 pub use bench::{Bench, State};
 pub use numbers::{Members, Numbers};
 pub use player::Player;
+pub use version::{check_library, VERSION};
 
 /// How many action numbers there are: 0 to 63.
 ///

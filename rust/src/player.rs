@@ -1,6 +1,6 @@
 use std::io::{self, Write};
 
-use crate::{image, Bench};
+use crate::{check_library, image, Bench, Refusal};
 
 /// The most bytes that one call of the library takes.
 const AT_ONCE: usize = 4096;
@@ -10,14 +10,17 @@ const AT_ONCE: usize = 4096;
 /// `01nn` open top, `02nnpp` open sub, `03aaii` read, `04aaii` write, `05aa` commit, `06aa` abort. Any other line gets `08` and changes nothing. The input may
 /// be cut anywhere and lines may be of any length.
 ///
+/// A refused line is answered like any other. The only error of playing itself is [`Refusal::OtherLibrary`], where [`check_library`] gives it.
+///
 /// ```
 /// use dikothelm::Player;
 ///
 /// let mut player = Player::new();
-/// let mut answers = player.feed(b"0101\n020201\n0203");
-/// answers.extend(player.feed(b"01\n040205\n030305"));
-/// answers.extend(player.finish());
+/// let mut answers = player.feed(b"0101\n020201\n0203")?;
+/// answers.extend(player.feed(b"01\n040205\n030305")?);
+/// answers.extend(player.finish()?);
 /// assert_eq!(answers, b"00\n00\n00\n00\n06\n");
+/// # Ok::<(), dikothelm::Refusal>(())
 /// ```
 #[derive(Clone, Debug, Default, PartialEq, Eq)]
 pub struct Player {
@@ -44,7 +47,7 @@ impl Player {
     ///
     /// let mut bench = Bench::new();
     /// bench.open_top(1)?;
-    /// assert_eq!(Player::on(bench).feed(b"0101\n"), b"03\n");
+    /// assert_eq!(Player::on(bench).feed(b"0101\n")?, b"03\n");
     /// # Ok::<(), dikothelm::Refusal>(())
     /// ```
     #[must_use]
@@ -54,22 +57,28 @@ impl Player {
 
     /// Plays the bytes and returns the answers of the lines that end in them.
     ///
+    /// # Errors
+    /// [`OtherLibrary`](Refusal::OtherLibrary).
+    ///
     /// ```
     /// let mut player = dikothelm::Player::new();
-    /// assert_eq!(player.feed(b"01"), b"");
-    /// assert_eq!(player.feed(b"07\n"), b"00\n");
+    /// assert_eq!(player.feed(b"01")?, b"");
+    /// assert_eq!(player.feed(b"07\n")?, b"00\n");
+    /// # Ok::<(), dikothelm::Refusal>(())
     /// ```
-    #[must_use = "the answers say what was refused"]
-    pub fn feed(&mut self, input: &[u8]) -> Vec<u8> {
+    pub fn feed(&mut self, input: &[u8]) -> Result<Vec<u8>, Refusal> {
         let mut answers = Vec::new();
-        self.feed_into(input, &mut answers).expect("writing to a vector doesn't fail");
-        answers
+        self.play(input, |said| {
+            answers.extend_from_slice(said);
+            Ok::<(), Refusal>(())
+        })?;
+        Ok(answers)
     }
 
     /// Plays the bytes and writes the answers of the lines that end in them.
     ///
     /// # Errors
-    /// The writer's. Lines whose answers it didn't take may have been played.
+    /// The writer's: lines whose answers it didn't take may have been played. [`OtherLibrary`](Refusal::OtherLibrary).
     ///
     /// ```
     /// let mut player = dikothelm::Player::new();
@@ -77,40 +86,34 @@ impl Player {
     /// # Ok::<(), std::io::Error>(())
     /// ```
     pub fn feed_into<W: Write + ?Sized>(&mut self, input: &[u8], answers: &mut W) -> io::Result<()> {
-        let mut out = [0; 3 * AT_ONCE];
-        let mut rest = input;
-        while !rest.is_empty() {
-            let (actions, owners) = self.bench.image_mut();
-            let answer = image::play(actions, owners, &mut self.progress, rest, &mut out);
-            let (taken, written) = (self.progress[2] as usize, self.progress[3] as usize);
-            assert!(answer == 0 && taken > 0, "the library takes what has room");
-            answers.write_all(&out[..written])?;
-            rest = &rest[taken..];
-        }
-        Ok(())
+        self.play(input, |said| answers.write_all(said))
     }
 
-    /// Ends the input: plays a last line that lacks its newline, if there is one, and returns its answer.
+    /// Ends the input: a last line that lacks its newline is played if it has a character, and its answer returned. An input that could not be read has not
+    /// ended, and a line that was cut short there may be a request: don't call this then.
+    ///
+    /// # Errors
+    /// [`OtherLibrary`](Refusal::OtherLibrary).
     ///
     /// ```
     /// let mut player = dikothelm::Player::new();
-    /// assert_eq!(player.feed(b"0107\n0108"), b"00\n");
-    /// assert_eq!(player.finish(), b"00\n");
-    /// assert_eq!(player.finish(), b"");
+    /// assert_eq!(player.feed(b"0107\n0108")?, b"00\n");
+    /// assert_eq!(player.finish()?, b"00\n");
+    /// assert_eq!(player.finish()?, b"");
+    /// # Ok::<(), dikothelm::Refusal>(())
     /// ```
-    #[must_use = "the answer says whether the last line was refused"]
-    pub fn finish(&mut self) -> Vec<u8> {
-        if self.begun() {
-            self.feed(b"\n")
-        } else {
-            Vec::new()
-        }
+    pub fn finish(&mut self) -> Result<Vec<u8>, Refusal> {
+        check_library()?;
+        let mut out = [0; 3];
+        let (actions, owners) = self.bench.image_mut();
+        let answer = image::finish(actions, owners, &mut self.progress, &mut out);
+        Ok(self.said(answer, &out)?.to_vec())
     }
 
     /// As [`finish`](Player::finish), and writes the answer.
     ///
     /// # Errors
-    /// The writer's.
+    /// The writer's: the line has been played. [`OtherLibrary`](Refusal::OtherLibrary).
     ///
     /// ```
     /// let mut answers = Vec::new();
@@ -121,19 +124,16 @@ impl Player {
     /// # Ok::<(), std::io::Error>(())
     /// ```
     pub fn finish_into<W: Write + ?Sized>(&mut self, answers: &mut W) -> io::Result<()> {
-        if self.begun() {
-            self.feed_into(b"\n", answers)
-        } else {
-            Ok(())
-        }
+        answers.write_all(&self.finish()?)
     }
 
     /// The bench after the lines played so far.
     ///
     /// ```
     /// let mut player = dikothelm::Player::new();
-    /// assert_eq!(player.feed(b"0107\n040705\n"), b"00\n00\n");
+    /// assert_eq!(player.feed(b"0107\n040705\n")?, b"00\n00\n");
     /// assert!(player.bench().writers(5).contains(7));
+    /// # Ok::<(), dikothelm::Refusal>(())
     /// ```
     #[must_use]
     pub const fn bench(&self) -> &Bench {
@@ -144,17 +144,34 @@ impl Player {
     ///
     /// ```
     /// let mut player = dikothelm::Player::new();
-    /// assert_eq!(player.feed(b"0107\n01"), b"00\n");
+    /// assert_eq!(player.feed(b"0107\n01")?, b"00\n");
     /// let mut bench = player.into_bench();
     /// assert!(bench.open_top(7).is_err());
+    /// # Ok::<(), dikothelm::Refusal>(())
     /// ```
     #[must_use]
     pub fn into_bench(self) -> Bench {
         self.bench
     }
 
-    /// Whether a line has begun.
-    fn begun(&self) -> bool {
-        self.progress[0] != 0
+    /// Plays the bytes, chunk by chunk, and hands over the answers of each.
+    fn play<E: From<Refusal>>(&mut self, input: &[u8], mut hand_over: impl FnMut(&[u8]) -> Result<(), E>) -> Result<(), E> {
+        let mut out = [0; 3 * AT_ONCE];
+        let mut rest = input;
+        while !rest.is_empty() {
+            check_library()?;
+            let (actions, owners) = self.bench.image_mut();
+            let answer = image::play(actions, owners, &mut self.progress, rest, &mut out);
+            hand_over(self.said(answer, &out)?)?;
+            // The proved library always takes something here, and never more than there is.
+            let taken = self.progress[2] as usize;
+            rest = rest.get(taken..).filter(|_| taken > 0).ok_or(Refusal::OtherLibrary)?;
+        }
+        Ok(())
+    }
+
+    /// What the last call wrote, if it is what the proved library could have written.
+    fn said<'a>(&self, answer: u8, out: &'a [u8]) -> Result<&'a [u8], Refusal> {
+        out.get(..self.progress[3] as usize).filter(|_| answer == 0).ok_or(Refusal::OtherLibrary)
     }
 }

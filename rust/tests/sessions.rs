@@ -1,16 +1,15 @@
 //! The named sessions on both sides of each edge, and what the crate's types say in words.
 
-use std::collections::HashSet;
 use std::error::Error;
 
-use dikothelm::{Answer, Bench, Player, Refusal, State};
+use dikothelm::{check_library, image, Answer, Bench, Player, Refusal, State, VERSION};
 
 /// Plays a trace from an empty bench and compares the answers, in the order of the lines.
 fn session(lines: &[(&str, u8)]) {
     let mut player = Player::new();
     for (turn, (line, answer)) in lines.iter().enumerate() {
         let said = player.feed(format!("{line}\n").as_bytes());
-        assert_eq!(said, format!("{answer:02x}\n").into_bytes(), "line {turn}: {line}");
+        assert_eq!(said, Ok(format!("{answer:02x}\n").into_bytes()), "line {turn}: {line}");
     }
 }
 
@@ -62,16 +61,39 @@ fn families() {
 
 #[test]
 fn answers_in_words() {
-    let words: Vec<String> = (0..=9).map(|number| Answer::from_number(number).unwrap().to_string()).collect();
-    assert_eq!(words.iter().collect::<HashSet<_>>().len(), 10);
-    for number in 0..=255 {
-        assert_eq!(Answer::from_number(number).map(Answer::number), (number <= 9).then_some(number));
-        assert_eq!(Refusal::from_number(number).map(Refusal::number), (1..=9).contains(&number).then_some(number));
+    let words = [
+        "accepted",
+        "no such action number",
+        "no such instrument",
+        "the number isn't free",
+        "the acting number isn't running",
+        "it has a running child",
+        "not granted: an action that is no ancestor owns it",
+        "the record isn't sound",
+        "malformed",
+        "the buffer is too short",
+    ];
+    for (number, said) in (0..=9).zip(words) {
+        assert_eq!(Answer::try_from(number).map(|answer| answer.to_string()), Ok(said.to_string()));
     }
+    for number in 0..=255 {
+        assert_eq!(Answer::try_from(number).ok().map(Answer::number), (number <= 9).then_some(number));
+        assert_eq!(Refusal::try_from(number).ok().map(Refusal::number), (1..=9).contains(&number).then_some(number));
+        assert_eq!(State::try_from(number).ok().map(State::number), (number <= 2).then_some(number));
+    }
+    assert_eq!(Answer::try_from(10).unwrap_err().to_string(), "no answer has the number 10");
+    assert_eq!(Refusal::try_from(255).unwrap_err().to_string(), "no refusal has the number 255");
+    assert_eq!(State::try_from(3).unwrap_err().to_string(), "no state has the number 3");
     let refusal: Box<dyn Error> = Box::new(Refusal::NotGranted);
     assert_eq!(refusal.to_string(), "not granted: an action that is no ancestor owns it");
     assert_eq!(Result::<(), Refusal>::from(Answer::Accepted), Ok(()));
     assert_eq!(Result::<(), Refusal>::from(Answer::Refused(Refusal::NoRoom)), Err(Refusal::NoRoom));
+}
+
+#[test]
+fn crate_and_library_are_of_one_version() {
+    assert_eq!((image::version(), VERSION), (0x000200, 0x000200));
+    assert_eq!(check_library(), Ok(()));
 }
 
 #[test]

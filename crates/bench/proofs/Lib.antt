@@ -24,3 +24,7 @@ pub mod UniqueCalls
 pub mod KeptSound
 pub mod Demands
 pub mod Traces
+-- Finishing: what ending the input hands back, and that it gives a trace's last answer.
+pub mod Finishing
+-- Through: a caller who lends three bytes of output or more, and lends the rest again, gets through any input.
+pub mod Through

@@ -7,13 +7,16 @@ use Prim.Native.Nat.{ℕ, _+_, _^_, _<_}
 use native.Mathlib.Omega.{arith}
 use lib.ListN.{length, getD, take, drop, length-drop, take-append-drop}
 use lib.Seq.{length-take-le, getD-take, getD-drop}
+use Rattle.rules.specs.Bench as rules
 use Rattle.rules.specs.Requests.{Request}
 use Rattle.rules.proofs.Tests.{by-bool}
-use Rattle.lines.specs.Feeding.{fed, said, taken}
+use Rattle.lines.specs.Lines.{answerLine}
+use Rattle.lines.specs.Feeding.{fed, saidBy, takenBy}
+use Rattle.naming.specs.Text.{reasonLine}
 use Rattle.bench.specs.declared.Bench.{Bench}
 use Rattle.bench.specs.declared.Player.{Player}
 use Rattle.bench.specs.declared.Fed.{Fed}
-use Rattle.bench.specs.Feeding.{feeding, FedAs}
+use Rattle.bench.specs.Feeding.{feeding, FedAsBy, FedAs, ExplainedAs}
 use Rattle.bench.specs.Image.{isImage, imageView, Requested}
 use Rattle.bench.proofs.Images.{image-long}
 use Rattle.bench.proofs.Unique.{Fits, view-injective}
@@ -24,15 +27,23 @@ player-unique p q fp fq e =
     let bench = view-injective (p .bench) (q .bench) fp fq (ap (λ f. f .bench) e) in
     λ j. record { bench = bench j; count = e j .count; value = e j .value }
 
--- Feeding has one result, and leaves one content of the buffer.
+-- Feeding has one result, and leaves one content of the buffer, whatever is written for a line.
+module _ (say : rules.Bench → Option Request → List ℕ) (width : ℕ) where
+  fed-by-unique : (p : Player) (input out : List ℕ) (x y : Fed) (out-x out-y : List ℕ) → Fits (x .player .bench) → Fits (y .player .bench) → FedAsBy say width p input out x out-x → FedAsBy say width p input out y out-y → (x ≡ y) × (out-x ≡ out-y)
+  fed-by-unique p input out x y out-x out-y fx fy ex ey =
+      let player = player-unique (x .player) (y .player) fx fy (ex .player ∙ sym (ey .player)) in
+      let used = ex .used ∙ sym (ey .used) in
+      let written = ex .written ∙ sym (ey .written) in (
+        λ j. record { player = player j; used = used j; written = written j },
+        ex .output ∙ ap (λ n. saidBy say (feeding p) (take (takenBy width input out) input) ++ drop n out) written ∙ sym (ey .output),
+      )
+
+-- of `feed`, and of `explain`
 pub fed-unique : (p : Player) (input out : List ℕ) (x y : Fed) (out-x out-y : List ℕ) → Fits (x .player .bench) → Fits (y .player .bench) → FedAs p input out x out-x → FedAs p input out y out-y → (x ≡ y) × (out-x ≡ out-y)
-fed-unique p input out x y out-x out-y fx fy ex ey =
-    let player = player-unique (x .player) (y .player) fx fy (ex .player ∙ sym (ey .player)) in
-    let used = ex .used ∙ sym (ey .used) in
-    let written = ex .written ∙ sym (ey .written) in (
-      λ j. record { player = player j; used = used j; written = written j },
-      ex .output ∙ ap (λ n. said (feeding p) (take (taken input out) input) ++ drop n out) written ∙ sym (ey .output),
-    )
+fed-unique = fed-by-unique answerLine 3
+
+pub explained-unique : (p : Player) (input out : List ℕ) (x y : Fed) (out-x out-y : List ℕ) → Fits (x .player .bench) → Fits (y .player .bench) → ExplainedAs p input out x out-x → ExplainedAs p input out y out-y → (x ≡ y) × (out-x ≡ out-y)
+explained-unique = fed-by-unique reasonLine 14
 
 -- ---- images
 

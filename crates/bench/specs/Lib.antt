@@ -2,4 +2,6 @@ pub mod Record
 pub mod Plays
 pub mod Feeding
 pub mod Feeds
+pub mod Finishing
+pub mod Through
 pub mod Image

@@ -3,9 +3,11 @@ pub mod answers;
 mod clear;
 mod ends;
 mod engine;
+mod finish;
 pub mod image;
 mod index;
 mod play;
+mod put;
 mod tree;
 
 use answers::ACCEPTED;

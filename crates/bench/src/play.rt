@@ -1,4 +1,5 @@
-// Feeding the trace player: bytes of lines in, answers out. The record's soundness is tested once for each chunk and carried from line to line.
+// Feeding the trace player: bytes of lines in, answers out, or answers with whom they name. The record's soundness is tested once for each chunk and carried
+// from line to line.
 use crate::Bench;
 use crate::Fed;
 use crate::Player;
@@ -9,19 +10,18 @@ use crate::index::children_in;
 use crate::index::lines_in;
 use crate::index::request;
 use crate::index::running_in;
+use crate::put::put_line;
 use lines::frames::count_after;
 use lines::frames::value_after;
 use soundness::sound;
 ghost use mathlib.Core.Path.{_≡_};
 ghost use Prim.Native.Nat.{_+_, _*_, _≤_, _<_};
 ghost use lib.ListN.{length};
-ghost use lib.Seq.{sets};
 ghost use Rattle.digits.specs.Digits.{ValuesOfBytes};
-ghost use Rattle.lines.specs.Lines.{answerText};
 ghost use Rattle.lines.specs.Arrays.{KnownArrays, KnownIndex, LineEnded};
-ghost use Rattle.lines.specs.Feeding.{framed, feedingOf, taken, FedBytes};
-ghost use Rattle.bench.specs.Feeding.{FedAs};
-ghost use Rattle.lines.specs.NextEnds.{FedOn};
+ghost use Rattle.lines.specs.Feeding.{framed, feedingOf, takenBy, FedBytesBy};
+ghost use Rattle.lines.specs.NextEnds.{FedOnBy};
+ghost use Rattle.bench.specs.Feeding.{FedAs, ExplainedAs, FedAsBy, sayBy, widthBy};
 
 // What is known of a line that has begun, and how much has been taken and written.
 struct Place {
@@ -68,16 +68,6 @@ fn end_line(
     UNSOUND
 }
 
-// The answer's two digits and 0a.
-fn put_answer(out: &mut [u8], at: usize, answer: u8)
-    requires { ⌜ (at + 3 ≤ length (now out)) × (answer < 16) ⌝ }
-    ensures { λ r. ⌜ now (out .exit) ≡ sets (now (out .entry)) at (answerText answer) ⌝ }
-{
-    out[at] = 48;
-    out[at + 1] = digits::character(answer);
-    out[at + 2] = 10;
-}
-
 // What comes next in the input: the end of a line, or one more character of it.
 fn feed_next(
     parents: &mut [u8; 64],
@@ -88,13 +78,14 @@ fn feed_next(
     lines: &mut [u64; 64],
     running: &mut u64,
     is_sound: bool,
+    telling: bool,
     values: &[u8; 256],
     place: Place,
     input: &[u8],
     out: &mut [u8],
 ) -> Place
-    requires { ⌜ KnownArrays «is_sound» (now parents) (now states) (now reads) (now writes) × KnownIndex «is_sound» (now parents) (now states) (now children) (now lines) (now running) × ValuesOfBytes (now values) × (place .at < length (now input)) × (place .written + 3 ≤ length (now out)) ⌝ }
-    ensures { λ r. ⌜ FedOn (feedingOf (now (parents .entry)) (now (states .entry)) (now (reads .entry)) (now (writes .entry)) (place .count) (place .value)) (now (input .entry)) (place .at) (r .at) (now (out .entry)) (place .written) (feedingOf (now (parents .exit)) (now (states .exit)) (now (reads .exit)) (now (writes .exit)) (r .count) (r .value)) (now (out .exit)) (r .written) × KnownArrays «is_sound» (now (parents .exit)) (now (states .exit)) (now (reads .exit)) (now (writes .exit)) × KnownIndex «is_sound» (now (parents .exit)) (now (states .exit)) (now (children .exit)) (now (lines .exit)) (now (running .exit)) ⌝ }
+    requires { ⌜ KnownArrays «is_sound» (now parents) (now states) (now reads) (now writes) × KnownIndex «is_sound» (now parents) (now states) (now children) (now lines) (now running) × ValuesOfBytes (now values) × (place .at < length (now input)) × (place .written + widthBy «telling» ≤ length (now out)) ⌝ }
+    ensures { λ r. ⌜ FedOnBy (sayBy «telling») (feedingOf (now (parents .entry)) (now (states .entry)) (now (reads .entry)) (now (writes .entry)) (place .count) (place .value)) (now (input .entry)) (place .at) (r .at) (now (out .entry)) (place .written) (feedingOf (now (parents .exit)) (now (states .exit)) (now (reads .exit)) (now (writes .exit)) (r .count) (r .value)) (now (out .exit)) (r .written) × KnownArrays «is_sound» (now (parents .exit)) (now (states .exit)) (now (reads .exit)) (now (writes .exit)) × KnownIndex «is_sound» (now (parents .exit)) (now (states .exit)) (now (children .exit)) (now (lines .exit)) (now (running .exit)) ⌝ }
 {
     let at = place.at;
     let end = next_end(values, place.count, place.value, input, at);
@@ -113,13 +104,24 @@ fn feed_next(
             end.x,
             end.y,
         );
-        let written = place.written;
-        put_answer(out, written, answer);
+        let written = put_line(
+            parents,
+            states,
+            reads,
+            writes,
+            telling,
+            end.code,
+            end.x,
+            end.y,
+            answer,
+            out,
+            place.written,
+        );
         return Place {
             count: 0,
             value: 0,
             at: at + size,
-            written: written + 3,
+            written: written,
         };
     }
     let c = input[at];
@@ -131,7 +133,7 @@ fn feed_next(
     }
 }
 
-// Bytes that surely have room for their answers.
+// Bytes that surely have room for what is written for them.
 fn feed_bytes(
     parents: &mut [u8; 64],
     states: &mut [u8; 64],
@@ -141,13 +143,14 @@ fn feed_bytes(
     lines: &mut [u64; 64],
     running: &mut u64,
     is_sound: bool,
+    telling: bool,
     count: u8,
     value: u32,
     input: &[u8],
     out: &mut [u8],
 ) -> Place
-    requires { ⌜ KnownArrays «is_sound» (now parents) (now states) (now reads) (now writes) × KnownIndex «is_sound» (now parents) (now states) (now children) (now lines) (now running) × (3 * length (now input) ≤ length (now out)) ⌝ }
-    ensures { λ r. ⌜ FedBytes (feedingOf (now (parents .entry)) (now (states .entry)) (now (reads .entry)) (now (writes .entry)) count value) (now (input .entry)) (now (out .entry)) 0 (feedingOf (now (parents .exit)) (now (states .exit)) (now (reads .exit)) (now (writes .exit)) (r .count) (r .value)) (now (out .exit)) (r .written) ⌝ }
+    requires { ⌜ KnownArrays «is_sound» (now parents) (now states) (now reads) (now writes) × KnownIndex «is_sound» (now parents) (now states) (now children) (now lines) (now running) × (widthBy «telling» * length (now input) ≤ length (now out)) ⌝ }
+    ensures { λ r. ⌜ FedBytesBy (sayBy «telling») (feedingOf (now (parents .entry)) (now (states .entry)) (now (reads .entry)) (now (writes .entry)) count value) (now (input .entry)) (now (out .entry)) 0 (feedingOf (now (parents .exit)) (now (states .exit)) (now (reads .exit)) (now (writes .exit)) (r .count) (r .value)) (now (out .exit)) (r .written) ⌝ }
 {
     let values = digits::values();
     let mut place = Place {
@@ -166,6 +169,7 @@ fn feed_bytes(
             lines,
             running,
             is_sound,
+            telling,
             &values,
             place,
             input,
@@ -175,11 +179,13 @@ fn feed_bytes(
     place
 }
 
-// How many bytes of the input are taken at once: all, or as many as surely have room for their answers.
-fn takes(input: &[u8], out: &[u8]) -> usize
-    ensures { λ r. ⌜ r ≡ taken (now (input .entry)) (now (out .entry)) ⌝ }
+// How many bytes of the input are taken at once: all, or as many as surely have room for what is written for them.
+fn takes(telling: bool, input: &[u8], out: &[u8]) -> usize
+    ensures { λ r. ⌜ r ≡ takenBy (widthBy «telling») (now (input .entry)) (now (out .entry)) ⌝ }
 {
-    let room = out.len() / 3;
+    let answers = out.len() / 3;
+    let reasons = out.len() / 14;
+    let room = if telling { reasons } else { answers };
     if input.len() <= room {
         return input.len();
     }
@@ -187,12 +193,11 @@ fn takes(input: &[u8], out: &[u8]) -> usize
 }
 
 impl Player {
-    // Takes bytes of the input, of any size and cut anywhere, and writes an answer line for each line that ends in them. What the output may lack room for
-    // is not taken: `used` says how much was.
-    pub fn feed(self, input: &[u8], out: &mut [u8]) -> Fed
-        ensures { λ r. ⌜ FedAs self (now (input .entry)) (now (out .entry)) r (now (out .exit)) ⌝ }
+    // Takes bytes of the input, of any size and cut anywhere, and writes a line for each line that ends in them.
+    fn play(self, telling: bool, input: &[u8], out: &mut [u8]) -> Fed
+        ensures { λ r. ⌜ FedAsBy (sayBy «telling») (widthBy «telling») self (now (input .entry)) (now (out .entry)) r (now (out .exit)) ⌝ }
     {
-        let used = takes(input, out);
+        let used = takes(telling, input, out);
         let bench = self.bench;
         let mut parents = bench.parents;
         let mut states = bench.states;
@@ -216,6 +221,7 @@ impl Player {
             &mut lines,
             &mut running,
             is_sound,
+            telling,
             self.count,
             self.value,
             &input[..used],
@@ -235,5 +241,20 @@ impl Player {
             used: used,
             written: place.written,
         }
+    }
+
+    // Takes bytes of the input, of any size and cut anywhere, and writes an answer line for each line that ends in them. What the output may lack room for
+    // is not taken: `used` says how much was.
+    pub fn feed(self, input: &[u8], out: &mut [u8]) -> Fed
+        ensures { λ r. ⌜ FedAs self (now (input .entry)) (now (out .entry)) r (now (out .exit)) ⌝ }
+    {
+        self.play(false, input, out)
+    }
+
+    // The same, with each answer's reason: whom it names, and for 6 how that one owns the instrument. A line takes up to 14 bytes of the output.
+    pub fn explain(self, input: &[u8], out: &mut [u8]) -> Fed
+        ensures { λ r. ⌜ ExplainedAs self (now (input .entry)) (now (out .entry)) r (now (out .exit)) ⌝ }
+    {
+        self.play(true, input, out)
     }
 }

@@ -30,13 +30,26 @@ pub fn character(d: u8) -> u8
     if low < 10 { 48 + low } else { 87 + low }
 }
 
-// The values of all bytes.
+// The values of all bytes: 16 but for the digits.
 pub fn values() -> [u8; 256]
     ensures { λ r. ⌜ ValuesOfBytes r ⌝ }
 {
     let mut table = [16u8; 256];
-    for c in 0..256usize {
-        table[c] = value((c % 256) as u8);
-    }
+    table[48] = 0;
+    table[49] = 1;
+    table[50] = 2;
+    table[51] = 3;
+    table[52] = 4;
+    table[53] = 5;
+    table[54] = 6;
+    table[55] = 7;
+    table[56] = 8;
+    table[57] = 9;
+    table[97] = 10;
+    table[98] = 11;
+    table[99] = 12;
+    table[100] = 13;
+    table[101] = 14;
+    table[102] = 15;
     table
 }

@@ -10,8 +10,8 @@ use Rattle.bench.specs.declared.Bench.{Bench}
 use Rattle.bench.specs.Record.{viewed}
 use Rattle.bench.specs.Image.{isImage, imageView, recordOf, StoredAs}
 use Rattle.saved.specs.declared.Saved.{Saved}
-use Rattle.saved.specs.Saved.{savedAs, bufferAfter}
-use Rattle.dikothelm.specs.Calls.{Replaced, soundAnswer, SavedAs}
+use Rattle.saved.specs.Saved.{savedAs, sizedAs, bufferAfter}
+use Rattle.dikothelm.specs.Calls.{Replaced, soundAnswer, SavedAs, SizeTold}
 
 module _ (actions owners : List ℕ) where
   -- ---- slices that are no image
@@ -28,6 +28,9 @@ module _ (actions owners : List ℕ) where
 
     pub none-saved : (out : List ℕ) → SavedAs actions owners out 7 out 0
     none-saved out = record { image = λ image. absurd (never image); noImage = λ no. (refl, refl, refl) }
+
+    pub none-sized : SizeTold actions owners 7 0
+    none-sized = record { image = λ image. absurd (never image); noImage = λ no. (refl, refl) }
 
   -- ---- an image
 
@@ -59,3 +62,8 @@ module _ (actions owners : List ℕ) where
             image = λ yes. (ap (λ (x : Saved). x .answer) all, ap (λ (x : Saved). x .count) all, buffer ∙ ap (λ (x : Bench). bufferAfter x out) is);
             noImage = λ other. absurd (always other);
           }
+
+      pub image-sized : (r : Saved) → r ≡ sizedAs b → SizeTold actions owners (r .answer) (r .count)
+      image-sized r e =
+          let all : r ≡ sizedAs (recordOf actions owners) = e ∙ ap sizedAs is in
+          record { image = λ yes. (ap (λ (x : Saved). x .answer) all, ap (λ (x : Saved). x .count) all); noImage = λ other. absurd (always other) }

@@ -12,7 +12,8 @@ use Rattle.rules.specs.ReadWrite.{readWrite}
 use Rattle.bench.specs.declared.Bench.{Bench}
 use Rattle.bench.specs.Image.{isImage, imageView, recordOf}
 use Rattle.lines.specs.Feeding.{Feeding, taken, fed, said}
-use Rattle.saved.specs.Saved.{savedAs, bufferAfter}
+use Rattle.bench.specs.Finishing.{saidLast, fedLast}
+use Rattle.saved.specs.Saved.{savedAs, sizedAs, bufferAfter}
 
 -- The image is replaced by that of a record, and `given` is answered.
 pub record Replaced (given : ℕ) (b : Bench) (actions owners : List ℕ) (answer : ℕ) (actions' owners' : List ℕ) : Type 0 where
@@ -27,6 +28,11 @@ soundAnswer actions owners = if isImage actions owners && sound readWrite (image
 pub record SavedAs (actions owners out : List ℕ) (answer : ℕ) (out' : List ℕ) (count' : ℕ) : Type 0 where
   pub image : isImage actions owners ≡ true → (answer ≡ savedAs (recordOf actions owners) (length out) .answer) × (count' ≡ savedAs (recordOf actions owners) (length out) .count) × (out' ≡ bufferAfter (recordOf actions owners) out)
   pub noImage : isImage actions owners ≡ false → (answer ≡ 7) × (count' ≡ 0) × (out' ≡ out)
+
+-- The size of the image's text is told.
+pub record SizeTold (actions owners : List ℕ) (answer count' : ℕ) : Type 0 where
+  pub image : isImage actions owners ≡ true → (answer ≡ sizedAs (recordOf actions owners) .answer) × (count' ≡ sizedAs (recordOf actions owners) .count)
+  pub noImage : isImage actions owners ≡ false → (answer ≡ 7) × (count' ≡ 0)
 
 -- ---- play
 
@@ -47,15 +53,28 @@ standing actions owners progress =
       value = getD progress 1 0 % 4294967296;
     }
 
--- Bytes that a player standing at `from` was fed: their answers stand at the buffer's start, and image and progress say where they lead.
-pub record PlayedAs (from : Feeding) (bytes out actions' owners' progress' out' : List ℕ) : Type 0 where
+-- A player stands there now, took so many bytes and wrote this text: image and progress say so, and the text stands at the buffer's start.
+pub record StandsAt (to : Feeding) (used : ℕ) (text out actions' owners' progress' out' : List ℕ) : Type 0 where
   pub bytesLong : length actions' ≡ 128
   pub wordsLong : length owners' ≡ 256
-  pub bench : imageView actions' owners' ≡ fed from bytes .bench
-  pub line : progress' ≡ fed from bytes .count ∷ fed from bytes .value ∷ length bytes ∷ length (said from bytes) ∷ []
-  pub output : out' ≡ said from bytes ++ drop (length (said from bytes)) out
+  pub bench : imageView actions' owners' ≡ to .bench
+  pub line : progress' ≡ to .count ∷ to .value ∷ used ∷ length text ∷ []
+  pub output : out' ≡ text ++ drop (length text) out
+
+-- A call moves the caller's player there and is answered 0; where the slices are no image and progress it is answered 7, and nothing changes.
+pub record Moved (to : Feeding) (used : ℕ) (text actions owners progress out : List ℕ) (answer : ℕ) (actions' owners' progress' out' : List ℕ) : Type 0 where
+  pub moved : playable actions owners progress ≡ true → (answer ≡ 0) × StandsAt to used text out actions' owners' progress' out'
+  pub refused : playable actions owners progress ≡ false → (answer ≡ 7) × (actions' ≡ actions) × (owners' ≡ owners) × (progress' ≡ progress) × (out' ≡ out)
 
 -- A chunk of input is played: as much of it as surely has room for its answers.
-pub record Played (actions owners progress input out : List ℕ) (answer : ℕ) (actions' owners' progress' out' : List ℕ) : Type 0 where
-  pub played : playable actions owners progress ≡ true → (answer ≡ 0) × PlayedAs (standing actions owners progress) (take (taken input out) input) out actions' owners' progress' out'
-  pub refused : playable actions owners progress ≡ false → (answer ≡ 7) × (actions' ≡ actions) × (owners' ≡ owners) × (progress' ≡ progress) × (out' ≡ out)
+abbrev pub Played : List ℕ → List ℕ → List ℕ → List ℕ → List ℕ → ℕ → List ℕ → List ℕ → List ℕ → List ℕ → Type 0
+Played actions owners progress input out =
+    let from = standing actions owners progress in
+    let bytes = take (taken input out) input in
+    Moved (fed from bytes) (length bytes) (said from bytes) actions owners progress out
+
+-- The input has ended: the last line is answered, if one has begun and its answer has room.
+abbrev pub Finished : List ℕ → List ℕ → List ℕ → List ℕ → ℕ → List ℕ → List ℕ → List ℕ → List ℕ → Type 0
+Finished actions owners progress out =
+    let from = standing actions owners progress in
+    Moved (fedLast from out) 0 (saidLast from out) actions owners progress out

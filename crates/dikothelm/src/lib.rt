@@ -12,7 +12,7 @@ ghost use Rattle.rules.specs.Requests.{openTop, openSub, commit, abort};
 ghost use Rattle.rules.specs.ReadWrite.{read, write};
 ghost use Rattle.bench.specs.Image.{Requested};
 ghost use Rattle.saved.specs.Saved.{emptyRecord, loadOf};
-ghost use Rattle.dikothelm.specs.Calls.{Replaced, soundAnswer, SavedAs};
+ghost use Rattle.dikothelm.specs.Calls.{Replaced, soundAnswer, SavedAs, SizeTold};
 
 // The codes of the requests, as trace lines have them.
 const OPEN_TOP: u8 = 1;
@@ -116,6 +116,28 @@ pub extern "C" fn dikothelm_image_abort(actions: &mut [u8], owners: &mut [u64], 
     ensures { λ r. ⌜ Requested (some (abort a)) (now (actions .entry)) (now (owners .entry)) r (now (actions .exit)) (now (owners .exit)) ⌝ }
 {
     image::request(actions, owners, ABORT, a, 0)
+}
+
+// The library's version: major × 65536 + minor × 256 + patch.
+#[no_mangle]
+pub extern "C" fn dikothelm_version() -> u32
+    ensures { λ r. ⌜ r ≡ 512 ⌝ }
+{
+    512
+}
+
+// How many bytes the bench's text has, in `count`; 7 and 0 where there is no sound bench.
+#[no_mangle]
+pub extern "C" fn dikothelm_image_text_size(actions: &[u8], owners: &[u64], count: &mut usize) -> u8
+    ensures { λ r. ⌜ SizeTold (now (actions .entry)) (now (owners .entry)) r (now (count .exit)) ⌝ }
+{
+    if !image::is_image(actions, owners) {
+        *count = 0;
+        return UNSOUND;
+    }
+    let size = saved::text_size(image::bench_of(actions, owners));
+    *count = size.count;
+    size.answer
 }
 
 // Writes the bench's text at the buffer's start; `count` says how many bytes. Refused, it writes nothing.

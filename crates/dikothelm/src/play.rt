@@ -1,4 +1,4 @@
-// Playing a trace chunk by chunk on an image, for C callers. The progress is four words: count and value of the line that has begun, 0 and 0 at a trace's
+// Playing a trace chunk by chunk on an image, and the end of its input, for C callers. The progress is four words: count and value of the line that has begun, 0 and 0 at a trace's
 // start, and how many bytes of the input were taken and how many were written.
 use bench::Player;
 use bench::answers::ACCEPTED;
@@ -9,7 +9,7 @@ ghost use mathlib.Core.Bool.{true};
 ghost use mathlib.Core.List.{[], _∷_};
 ghost use lib.ListN.{length};
 ghost use Rattle.bench.specs.Feeding.{feeding};
-ghost use Rattle.dikothelm.specs.Calls.{playable, lineCount, standing, Played};
+ghost use Rattle.dikothelm.specs.Calls.{playable, lineCount, standing, Played, Finished};
 
 // Whether the slices are an image and a player's progress.
 fn is_playable(actions: &[u8], owners: &[u64], progress: &[u64]) -> bool
@@ -67,6 +67,29 @@ pub extern "C" fn dikothelm_image_play(
     }
     let player = player_of(actions, owners, progress);
     let fed = player.feed(input, out);
+    let after = fed.player;
+    let bench = after.bench;
+    image::store(bench, actions, owners);
+    put_progress(progress, after.count, after.value, fed.used, fed.written);
+    ACCEPTED
+}
+
+// Ends the input of a trace: a last line that lacks its 0a is answered if it has at least one character, nothing else. Where the buffer has fewer than three
+// bytes the line stays begun.
+#[no_mangle]
+pub extern "C" fn dikothelm_image_finish(
+    actions: &mut [u8],
+    owners: &mut [u64],
+    progress: &mut [u64],
+    out: &mut [u8],
+) -> u8
+    ensures { λ r. ⌜ Finished (now (actions .entry)) (now (owners .entry)) (now (progress .entry)) (now (out .entry)) r (now (actions .exit)) (now (owners .exit)) (now (progress .exit)) (now (out .exit)) ⌝ }
+{
+    if !is_playable(actions, owners, progress) {
+        return UNSOUND;
+    }
+    let player = player_of(actions, owners, progress);
+    let fed = player.finish(out);
     let after = fed.player;
     let bench = after.bench;
     image::store(bench, actions, owners);

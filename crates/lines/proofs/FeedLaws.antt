@@ -4,8 +4,8 @@ use mathlib.Core.Path.{_≡_, refl, sym, _∙_, ap}
 use mathlib.Core.Bool.{Bool, true, false, _&&_, and-comm}
 use mathlib.Core.List.{List, [], _∷_, _++_}
 use mathlib.Core.Option.{Option}
-use Prim.Native.Nat.{ℕ, zero, suc, _+_, _*_, _-_, _%_, _≤_, _<_}
-use native.Mathlib.Nat.{add-zero, add-suc, suc-add, zero-add, mod-eq-of-lt}
+use Prim.Native.Nat.{ℕ, zero, suc, _+_, _*_, _-_, _/_, _%_, _≤_, _<_}
+use native.Mathlib.Nat.{add-zero, add-suc, suc-add, zero-add, mul-suc, mul-add, mul-le-mul-left, mul-div-le, mod-eq-of-lt}
 use native.Mathlib.Numerals.{add-one}
 use native.Mathlib.Omega.{arith}
 use borrow.Author.Tests.{ne-eqb, lt-ltb, le-ltb}
@@ -17,25 +17,32 @@ use Rattle.rules.specs.Bench as rules
 use Rattle.rules.specs.Requests.{Request}
 use Rattle.rules.proofs.Tests.{by-bool, and-both}
 use Rattle.views.specs.View.{view}
-use Rattle.lines.specs.Lines.{answerText}
+use Rattle.lines.specs.Lines.{answered, answerText}
 use Rattle.lines.specs.Arrays.{LineEnded}
-use Rattle.lines.specs.Feeding.{Feeding, between, mayGoOn, countAfter, valueAfter, fedByte, saidByte, fed, said, taken, feedingOf, FedBytes}
-use Rattle.lines.specs.NextEnds.{EndsAs, FedOn}
+use Rattle.lines.specs.Feeding.{Feeding, between, heldRequest, mayGoOn, countAfter, valueAfter, fedByte, saidByteBy, fed, saidBy, takenBy, taken, feedingOf, FedBytesBy}
+use Rattle.lines.specs.NextEnds.{EndsAs, FedOnBy}
 use Rattle.lines.proofs.LineFeeding.{fed-append, said-append}
 
 -- ---- how long
 
-pub said-byte-short : (f : Feeding) (c : ℕ) → length (saidByte f c) ≤ 3
-unfolding saidByte
-said-byte-short f c = by-bool (eqb c 10) (λ t. rw t (omega arith)) (λ t. rw t (omega arith))
+-- no line's text is longer than so many bytes
+abbrev pub Within : (rules.Bench → Option Request → List ℕ) → ℕ → Type 0
+Within say width = (b : rules.Bench) (r : Option Request) → length (say b r) ≤ width
 
-pub said-short : (f : Feeding) (bytes : List ℕ) → length (said f bytes) ≤ 3 * length bytes
-unfolding said
-said-short f [] = omega arith
-said-short f (c ∷ rest) =
-    let here = said-byte-short f c in
-    let later = said-short (fedByte f c) rest in
-    rw length-append (omega arith)
+module _ (say : rules.Bench → Option Request → List ℕ) (width : ℕ) (short : Within say width) where
+  pub said-byte-short : (f : Feeding) (c : ℕ) → length (saidByteBy say f c) ≤ width
+  unfolding saidByteBy
+  said-byte-short f c =
+      by-bool (eqb c 10) (λ t. rw t (short (f .bench) (heldRequest (f .count) (f .value)))) (λ t. rw t (omega arith))
+
+  pub said-short : (f : Feeding) (bytes : List ℕ) → length (saidBy say f bytes) ≤ width * length bytes
+  unfolding saidBy
+  said-short f [] = omega arith
+  said-short f (c ∷ rest) =
+      let here = said-byte-short f c in
+      let later = said-short (fedByte f c) rest in
+      let more : width * suc (length rest) ≡ width * length rest + width = mul-suc width (length rest) in
+      rw length-append (omega arith)
 
 -- stores of two runs, one after the other
 pub sets-append : (l : List ℕ) (at : ℕ) (xs ys : List ℕ) → sets l at (xs ++ ys) ≡ sets (sets l at xs) (at + length xs) ys
@@ -67,24 +74,24 @@ module _ (count c : ℕ) where
 
 -- ---- what comes next
 
--- the end of a line
-pub line-fed : {ok : Bool} {r : Option Request} {parents states reads writes : List ℕ} {count value : ℕ} {bytes : List ℕ} {answer : ℕ} {parents' states' reads' writes' out out' : List ℕ} {at : ℕ} → EndsAs count value bytes r → LineEnded ok r parents states reads writes answer parents' states' reads' writes' → out' ≡ sets out at (answerText answer) → FedBytes (feedingOf parents states reads writes count value) bytes out at (feedingOf parents' states' reads' writes' 0 0) out' (at + 3)
-line-fed {parents = parents} {states = states} {reads = reads} {writes = writes} {out = out} {at = at} e m put =
+-- the end of a line, where its text is put
+pub line-fed : {say : rules.Bench → Option Request → List ℕ} {ok : Bool} {r : Option Request} {parents states reads writes : List ℕ} {count value : ℕ} {bytes : List ℕ} {answer : ℕ} {parents' states' reads' writes' out out' text : List ℕ} {at at' : ℕ} → EndsAs count value bytes r → LineEnded ok r parents states reads writes answer parents' states' reads' writes' → text ≡ say (view parents states reads writes) r → out' ≡ sets out at text → at' ≡ at + length text → FedBytesBy say (feedingOf parents states reads writes count value) bytes out at (feedingOf parents' states' reads' writes' 0 0) out' at'
+line-fed {say = say} {parents = parents} {states = states} {reads = reads} {writes = writes} {out = out} {at = at} e m is put up =
     let b : rules.Bench = view parents states reads writes in
     record {
       is = ap (λ o. between (o .next)) (m .outcome) ∙ sym (e .leads b);
-      wrote = put ∙ ap (λ o. sets out at (answerText (o .answer))) (m .outcome) ∙ ap (sets out at) (sym (e .says b));
-      upTo = ap (λ text. at + length text) (sym (e .says b));
+      wrote = put ∙ ap (sets out at) (is ∙ sym (e .says say b));
+      upTo = up ∙ ap (λ l. at + length l) (is ∙ sym (e .says say b));
     }
 
 -- any other byte
-pub character-fed : {f : Feeding} {c count value : ℕ} {out : List ℕ} {at : ℕ} → (c ≡ 10 → ⊥) → count ≡ countAfter (f .count) c → value ≡ valueAfter (f .count) (f .value) c → FedBytes f (c ∷ []) out at (record { bench = f .bench; count = count; value = value }) out at
-unfolding fed fedByte said saidByte
+pub character-fed : {say : rules.Bench → Option Request → List ℕ} {f : Feeding} {c count value : ℕ} {out : List ℕ} {at : ℕ} → (c ≡ 10 → ⊥) → count ≡ countAfter (f .count) c → value ≡ valueAfter (f .count) (f .value) c → FedBytesBy say f (c ∷ []) out at (record { bench = f .bench; count = count; value = value }) out at
+unfolding fed fedByte saidBy saidByteBy
 character-fed {c = c} {at = at} other e g =
     let t = ne-eqb c 10 other in record { is = rw (t, e, g); wrote = rw t; upTo = rw t (sym (add-zero at)) }
 
 -- so many bytes from a place on have been fed
-pub fed-on : {from : Feeding} {input : List ℕ} {at size at' : ℕ} {bytes out : List ℕ} {written : ℕ} {now : Feeding} {out' : List ℕ} {written' : ℕ} → at' ≡ at + size → (size ≡ 0 → ⊥) → at' ≤ length input → bytes ≡ take size (drop at input) → FedBytes from bytes out written now out' written' → FedOn from input at at' out written now out' written'
+pub fed-on : {say : rules.Bench → Option Request → List ℕ} {from : Feeding} {input : List ℕ} {at size at' : ℕ} {bytes out : List ℕ} {written : ℕ} {now : Feeding} {out' : List ℕ} {written' : ℕ} → at' ≡ at + size → (size ≡ 0 → ⊥) → at' ≤ length input → bytes ≡ take size (drop at input) → FedBytesBy say from bytes out written now out' written' → FedOnBy say from input at at' out written now out' written'
 fed-on {at = at} {size = size} e some within same m =
     let more = positive size some in
     let n : at + size - at ≡ size = omega arith in
@@ -96,22 +103,24 @@ fed-on {at = at} {size = size} e some within same m =
 
 -- ---- the loop over bytes
 
--- What is left after i bytes: the rest, fed from here, leads where all bytes lead from the start, and there is room for its answers.
-pub record Left (start : Feeding) (input out₀ : List ℕ) (now : Feeding) (out : List ℕ) (written i : ℕ) : Type 0 where
+-- What is left after i bytes: the rest, fed from here, leads where all bytes lead from the start, and there is room for
+-- what is written for it.
+pub record Left (say : rules.Bench → Option Request → List ℕ) (width : ℕ) (start : Feeding) (input out₀ : List ℕ) (now : Feeding) (out : List ℕ) (written i : ℕ) : Type 0 where
   pub within : i ≤ length input
   pub leads : fed now (drop i input) ≡ fed start input
-  pub writes : sets out written (said now (drop i input)) ≡ sets out₀ 0 (said start input)
-  pub ends : written + length (said now (drop i input)) ≡ length (said start input)
-  pub room : written + 3 * (length input - i) ≤ length out
+  pub writes : sets out written (saidBy say now (drop i input)) ≡ sets out₀ 0 (saidBy say start input)
+  pub ends : written + length (saidBy say now (drop i input)) ≡ length (saidBy say start input)
+  pub room : written + width * (length input - i) ≤ length out
   pub long : length out ≡ length out₀
 
-module _ {start : Feeding} {input out₀ : List ℕ} where
-  pub left-none : 3 * length input ≤ length out₀ → Left start input out₀ start out₀ 0 0
+module _ {say : rules.Bench → Option Request → List ℕ} {width : ℕ} {start : Feeding} {input out₀ : List ℕ} where
+  pub left-none : width * length input ≤ length out₀ → Left say width start input out₀ start out₀ 0 0
   left-none h =
-      record { within = omega arith; leads = refl; writes = refl; ends = zero-add _; room = omega arith; long = refl }
+      let all : length input - 0 ≡ length input = omega arith in
+      record { within = omega arith; leads = refl; writes = refl; ends = zero-add _; room = rw all (omega arith); long = refl }
 
-  pub left-more : {now now' : Feeding} {out out' : List ℕ} {written written' i i' : ℕ} → Left start input out₀ now out written i → FedOn now input i i' out written now' out' written' → Left start input out₀ now' out' written' i'
-  left-more {now} {now'} {out} {out'} {written} {written'} {i} {i'} l on =
+  pub left-more : {now now' : Feeding} {out out' : List ℕ} {written written' i i' : ℕ} → Within say width → Left say width start input out₀ now out written i → FedOnBy say now input i i' out written now' out' written' → Left say width start input out₀ now' out' written' i'
+  left-more {now} {now'} {out} {out'} {written} {written'} {i} {i'} within-width l on =
       let m = on .bytes in
       let moved = on .moved in
       let within = on .within in
@@ -119,28 +128,39 @@ module _ {start : Feeding} {input out₀ : List ℕ} where
       let rest : List ℕ = drop i' input in
       let there : i + (i' - i) ≡ i' = omega arith in
       let split : drop i input ≡ bytes ++ rest = sym (take-append-drop (i' - i) (drop i input)) ∙ ap (λ l. bytes ++ l) (drop-drop (i' - i) i input ∙ ap (λ k. drop k input) there) in
-      let long : length out' ≡ length out = ap length (m .wrote) ∙ length-sets out written (said now bytes) in
-      let short = said-short now bytes in
+      let long : length out' ≡ length out = ap length (m .wrote) ∙ length-sets out written (saidBy say now bytes) in
+      let short = said-short say width within-width now bytes in
       let many : length bytes ≡ i' - i = length-take-le (i' - i) (drop i input) (rw length-drop (omega arith)) in
       let room = l .room in
+      let parts : length input - i ≡ (i' - i) + (length input - i') = omega arith in
+      let split-room : width * (length input - i) ≡ width * (i' - i) + width * (length input - i') = ap (λ n. width * n) parts ∙ mul-add width (i' - i) (length input - i') in
+      let fed-room : width * length bytes ≡ width * (i' - i) = ap (λ n. width * n) many in
       let upTo = m .upTo in
-      let said-all : said now (drop i input) ≡ said now bytes ++ said now' rest = ap (said now) split ∙ said-append now bytes rest ∙ ap (λ f. said now bytes ++ said f rest) (sym (m .is)) in
+      let said-all : saidBy say now (drop i input) ≡ saidBy say now bytes ++ saidBy say now' rest = ap (saidBy say now) split ∙ said-append say now bytes rest ∙ ap (λ f. saidBy say now bytes ++ saidBy say f rest) (sym (m .is)) in
       record {
         within = within;
         leads = ap (λ f. fed f rest) (m .is) ∙ sym (fed-append now bytes rest) ∙ ap (fed now) (sym split) ∙ l .leads;
         writes =
             rw (m .wrote, upTo)
-            (sym (sets-append out written (said now bytes) (said now' rest)) ∙ ap (sets out written) (sym said-all) ∙ l .writes);
+            (sym (sets-append out written (saidBy say now bytes) (saidBy say now' rest)) ∙ ap (sets out written) (sym said-all) ∙ l .writes);
         ends =
-            (let e : length (said now (drop i input)) ≡ length (said now bytes) + length (said now' rest) = ap length said-all ∙ length-append (said now bytes) (said now' rest) in
+            (let e : length (saidBy say now (drop i input)) ≡ length (saidBy say now bytes) + length (saidBy say now' rest) = ap length said-all ∙ length-append (saidBy say now bytes) (saidBy say now' rest) in
             let ends = l .ends in
             omega arith);
         room = omega arith;
         long = long ∙ l .long;
       }
 
-  pub left-all : {now : Feeding} {out : List ℕ} {written i : ℕ} → length input ≤ i → Left start input out₀ now out written i → FedBytes start input out₀ 0 now out written
-  unfolding fed said
+  -- room for the next line
+  pub left-room : {now : Feeding} {out : List ℕ} {written i : ℕ} → i < length input → Left say width start input out₀ now out written i → written + width ≤ length out
+  left-room {i = i} inside l =
+      let room = l .room in
+      let one : length input - i ≡ suc (length input - suc i) = omega arith in
+      let more : width * (length input - i) ≡ width * (length input - suc i) + width = ap (λ n. width * n) one ∙ mul-suc width (length input - suc i) in
+      omega arith
+
+  pub left-all : {now : Feeding} {out : List ℕ} {written i : ℕ} → length input ≤ i → Left say width start input out₀ now out written i → FedBytesBy say start input out₀ 0 now out written
+  unfolding fed saidBy
   left-all {i = i} h l =
       let within = l .within in
       let e : i ≡ length input = omega arith in
@@ -148,15 +168,28 @@ module _ {start : Feeding} {input out₀ : List ℕ} where
       let ends = rw d at (l .ends) in
       record { is = rw d at (l .leads); wrote = rw d at (l .writes); upTo = omega arith }
 
-pub fed-long : {from : Feeding} {bytes out : List ℕ} {at : ℕ} {now : Feeding} {out' : List ℕ} {at' : ℕ} → FedBytes from bytes out at now out' at' → length out' ≡ length out
-fed-long {from} {bytes} {out} {at} m = ap length (m .wrote) ∙ length-sets out at (said from bytes)
+pub fed-long : {say : rules.Bench → Option Request → List ℕ} {from : Feeding} {bytes out : List ℕ} {at : ℕ} {now : Feeding} {out' : List ℕ} {at' : ℕ} → FedBytesBy say from bytes out at now out' at' → length out' ≡ length out
+fed-long {say} {from} {bytes} {out} {at} m = ap length (m .wrote) ∙ length-sets out at (saidBy say from bytes)
 
 -- ---- a player
 
 -- what is taken of the input
+module _ (width : ℕ) (input out : List ℕ) (used : ℕ) (e : used ≡ takenBy width input out) where
+  pub taken-by-long : used ≡ length (take used input)
+  taken-by-long = let h : used ≤ length input = omega arith in sym (length-take-le used input h)
+
+  pub taken-by-fits : width * length (take used input) ≤ length out
+  taken-by-fits =
+      let long = taken-by-long in
+      let least : length (take used input) ≤ length out / width = omega arith in
+      let scaled = mul-le-mul-left width least in
+      let most = mul-div-le (length out) width in
+      omega arith
+
+-- with room for answers
 module _ (input out : List ℕ) (used : ℕ) (e : used ≡ taken input out) where
   pub taken-long : used ≡ length (take used input)
-  taken-long = let h : used ≤ length input = omega arith in sym (length-take-le used input h)
+  taken-long = taken-by-long 3 input out used e
 
   pub taken-fits : 3 * length (take used input) ≤ length out
-  taken-fits = let long = taken-long in omega arith
+  taken-fits = taken-by-fits 3 input out used e

@@ -3,8 +3,7 @@ use mathlib.Core.Path.{_≡_, refl, _∙_, ap}
 use mathlib.Core.List.{List, [], _∷_, _++_, map, flatten}
 use mathlib.Core.Option.{Option, none, some}
 use Prim.Native.Nat.{ℕ}
-use Prim.Native.Char.{code}
-use Prim.Native.String.{String, [] as done, _∷_ as _then_}
+use Prim.Native.String.{String}
 use lib.ListN.{getD}
 use Rattle.rules.specs.Bench as rules
 use Rattle.rules.specs.Requests.{Request, openTop, openSub, commit, abort}
@@ -12,12 +11,8 @@ use Rattle.rules.specs.Answers.{answers}
 use Rattle.rules.specs.ReadWrite.{readWrite, read, write}
 use Rattle.rules.specs.Sessions.{sessions}
 use Rattle.rules.proofs.Sessions.{requestsOf, answersOf, sessions-hold}
-use Rattle.lines.specs.Lines.{linesOf, requestOf, answered, answerText, written, leftBy, outputOf}
-
--- the bytes of a text
-abbrev pub bytesOf : String → List ℕ
-bytesOf done = []
-bytesOf (c then rest) = code c ∷ bytesOf rest
+use Rattle.lines.specs.Bytes.{bytesOf}
+use Rattle.lines.specs.Lines.{linesOf, requestOf, answered, answerText, writtenBy, written, leftBy, outputBy, outputOf}
 
 -- ---- the whole case
 
@@ -27,7 +22,7 @@ played b [] = []
 played b (q ∷ rest) = let o = answered b q in answerText (o .answer) ++ played (o .next) rest
 
 written-played : (b : rules.Bench) (lines : List (List ℕ)) → written b lines ≡ played b (map requestOf lines)
-unfolding written played
+unfolding writtenBy played
 written-played b [] = refl
 written-played b (line ∷ rest) =
     let o = answered b (requestOf line) in ap (λ text. answerText (o .answer) ++ text) (written-played (o .next) rest)
@@ -67,7 +62,7 @@ whole-requests = refl
 
 -- document 01's case whole
 pub whole-case : outputOf (bytesOf "0101\n020201\n020301\n040205\n030305\n0502\n030305\n040305\n0501\n0603\n040105\n0501\n") ≡ bytesOf "00\n00\n00\n00\n06\n00\n00\n00\n05\n00\n00\n00\n"
-unfolding outputOf wholeTrace flatten
+unfolding outputBy wholeTrace flatten
 whole-case =
     written-played rules.empty (linesOf wholeTrace)
     ∙ ap (played rules.empty) whole-requests
@@ -109,7 +104,7 @@ unreadable =
 
 -- each gets 08
 pub unreadable-answers : (b : rules.Bench) → written b (map bytesOf unreadable) ≡ flatten (map (λ text. bytesOf "08\n") unreadable)
-unfolding written requestOf flatten
+unfolding writtenBy requestOf flatten
 unreadable-answers b = refl
 
 -- and nothing changes
@@ -120,17 +115,17 @@ unreadable-leave b = refl
 -- ---- where lines end
 
 pub empty-input : outputOf [] ≡ []
-unfolding outputOf linesOf written
+unfolding outputBy linesOf writtenBy
 empty-input = refl
 
 -- a lone 0a is one line
 pub lone-end : outputOf (10 ∷ []) ≡ bytesOf "08\n"
-unfolding outputOf linesOf written requestOf
+unfolding outputBy linesOf writtenBy requestOf
 lone-end = refl
 
 -- a last line that lacks its 0a is answered as if it had it
 pub last-line : outputOf (bytesOf "0101\n0601") ≡ outputOf (bytesOf "0101\n0601\n")
-unfolding outputOf linesOf
+unfolding outputBy linesOf
 last-line = refl
 
 -- empty lines between lines count

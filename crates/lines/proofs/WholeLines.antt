@@ -2,7 +2,7 @@
 use mathlib.Core.Path.{_≡_, refl, sym, _∙_, ap, ap₂, subst}
 use mathlib.Core.Bool.{Bool, true, false, _&&_}
 use mathlib.Core.List.{List, [], _∷_, _++_, append-assoc, append-nil}
-use mathlib.Core.Option.{none}
+use mathlib.Core.Option.{Option, none}
 use Prim.Native.Nat.{ℕ, zero, suc, _+_, _≤_, _<_}
 use native.Mathlib.Nat.{add-zero}
 use native.Mathlib.Omega.{arith}
@@ -13,9 +13,10 @@ use lib.Seq.{drop-cons}
 use Rattle.digits.specs.Digits.{digitOf}
 use Rattle.rules.specs.Tests.{if_then_else_}
 use Rattle.rules.specs.Bench as rules
+use Rattle.rules.specs.Requests.{Request}
 use Rattle.rules.proofs.Tests.{by-bool, and-left, and-right, and-both}
-use Rattle.lines.specs.Lines.{areDigits, byteOf, shortFrame, longFrame, frameOf, requestOf, answered, answerText}
-use Rattle.lines.specs.Feeding.{Feeding, between, framed, heldRequest, fedByte, saidByte, fed, said}
+use Rattle.lines.specs.Lines.{areDigits, byteOf, shortFrame, longFrame, frameOf, requestOf, answered}
+use Rattle.lines.specs.Feeding.{Feeding, between, framed, heldRequest, fedByte, saidByteBy, fed, saidBy}
 use Rattle.lines.specs.NextEnds.{pairOf, EndsAs, WholeLine, BegunEnd, NextEnd}
 use Rattle.lines.proofs.BegunLines.{Begun, begun-none, begun-more, begun-request, fed-character}
 use Rattle.lines.proofs.LineFeeding.{fed-append, said-append}
@@ -29,25 +30,25 @@ digit-unended c h =
 
 -- Digits have come after a line that had begun: nothing was said, the bench stayed, and they are known.
 record DigitsFed (f : Feeding) (before line : List ℕ) : Type 0 where
-  silent : said f line ≡ []
+  silent : (say : rules.Bench → Option Request → List ℕ) → saidBy say f line ≡ []
   kept : fed f line .bench ≡ f .bench
   begun : Begun (fed f line) (before ++ line)
 
 digits-fed : (line : List ℕ) (f : Feeding) (before : List ℕ) → areDigits line ≡ true → Begun f before → DigitsFed f before line
-unfolding fed said saidByte
-digits-fed [] f before h g = record { silent = refl; kept = refl; begun = rw append-nil g }
+unfolding fed saidBy saidByteBy
+digits-fed [] f before h g = record { silent = λ say. refl; kept = refl; begun = rw append-nil g }
 digits-fed (c ∷ line) f before h g =
     let on = digit-unended c (and-left (ltb (digitOf c) 16) (areDigits line) h) in
     let more = digits-fed line (fedByte f c) (before ++ (c ∷ [])) (and-right (ltb (digitOf c) 16) (areDigits line) h) (begun-more f before c on g) in
     record {
-      silent = rw on (more .silent);
+      silent = λ say. rw on (more .silent say);
       kept = more .kept ∙ ap (λ (x : Feeding). x .bench) (fed-character f c on);
       begun = subst (λ l. Begun (fed (fedByte f c) line) l) (append-assoc before (c ∷ []) line) (more .begun);
     }
 
 -- the end of a line of digits
 pub digits-end : (line : List ℕ) → areDigits line ≡ true → EndsAs 0 0 (line ++ (10 ∷ [])) (frameOf line)
-unfolding fed said fedByte saidByte requestOf
+unfolding fed saidBy fedByte saidByteBy requestOf
 digits-end line h = record { leads = leads; says = says }
   where
     ended : (b : rules.Bench) → DigitsFed (between b) [] line
@@ -62,11 +63,12 @@ digits-end line h = record { leads = leads; says = says }
         fed-append (between b) line (10 ∷ [])
         ∙ ap₂ (λ bench r. between (answered bench r .next)) (ended b .kept) (request b)
 
-    says : (b : rules.Bench) → said (between b) (line ++ (10 ∷ [])) ≡ answerText (answered b (frameOf line) .answer)
-    says b =
-        said-append (between b) line (10 ∷ [])
-        ∙ ap (λ text. text ++ said (fed (between b) line) (10 ∷ [])) (ended b .silent)
-        ∙ ap₂ (λ bench r. answerText (answered bench r .answer)) (ended b .kept) (request b)
+    says : (say : rules.Bench → Option Request → List ℕ) (b : rules.Bench) → saidBy say (between b) (line ++ (10 ∷ [])) ≡ say b (frameOf line)
+    says say b =
+        said-append say (between b) line (10 ∷ [])
+        ∙ ap (λ text. text ++ saidBy say (fed (between b) line) (10 ∷ [])) (ended b .silent say)
+        ∙ append-nil (say (fed (between b) line .bench) (heldRequest (fed (between b) line .count) (fed (between b) line .value)))
+        ∙ ap₂ say (ended b .kept) (request b)
 
 -- ---- characters of the input
 
@@ -142,14 +144,14 @@ module _ (input : List ℕ) (at : ℕ) (room : at + 7 ≤ length input) where
 
 -- the line that has begun, or none
 pub begun-ends : {count value : ℕ} {input : List ℕ} {at c code x y size : ℕ} → at < length input → c ≡ getD input at 0 → BegunEnd count value c code x y size → NextEnd count value input at code x y size
-unfolding fed said fedByte saidByte
+unfolding fed saidBy fedByte saidByteBy
 begun-ends {count} {value} {input} {at} {c} l e m =
     let line : take 1 (drop at input) ≡ c ∷ [] = rw e (rw add-zero at (take-characters 1 input at 0 (omega arith))) in
     record {
       small = m .small;
       goesOn = λ none-found end. m .goesOn none-found (e ∙ end);
       within = λ some. let one = m .sized some in omega arith;
-      ends = λ some. rw (m .sized some, line, m .ended some, m .frame some) (record { leads = λ b. refl; says = λ b. refl });
+      ends = λ some. rw (m .sized some, line, m .ended some, m .frame some) (record { leads = λ b. refl; says = λ say b. append-nil (say b (heldRequest count value)) });
     }
 
 pub whole-ends : {count value : ℕ} {input : List ℕ} {at code x y size : ℕ} → (size ≡ 0 → ⊥) → WholeLine count value input at code x y size → NextEnd count value input at code x y size

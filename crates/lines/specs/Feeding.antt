@@ -14,7 +14,7 @@ use Rattle.rules.specs.Requests.{Request, openTop, openSub, commit, abort}
 use Rattle.rules.specs.ReadWrite.{read, write}
 use lib.Seq.{sets}
 use Rattle.views.specs.View.{view}
-use Rattle.lines.specs.Lines.{shortFrame, longFrame, answered, answerText}
+use Rattle.lines.specs.Lines.{shortFrame, longFrame, answered, answerLine}
 
 pub record Feeding : Type 0 where
   pub bench : rules.Bench
@@ -60,33 +60,47 @@ fedByte f c =
     if eqb c 10 then between (answered (f .bench) (heldRequest (f .count) (f .value)) .next)
     else record { bench = f .bench; count = countAfter (f .count) c; value = valueAfter (f .count) (f .value) c }
 
--- what is written for it
-unfoldable pub saidByte : Feeding → ℕ → List ℕ
-saidByte f c = if eqb c 10 then answerText (answered (f .bench) (heldRequest (f .count) (f .value)) .answer) else []
+-- what is written for it, where `say` gives what is written for a line
+unfoldable pub saidByteBy : (rules.Bench → Option Request → List ℕ) → Feeding → ℕ → List ℕ
+saidByteBy say f c = if eqb c 10 then say (f .bench) (heldRequest (f .count) (f .value)) else []
 
 -- after any bytes, and what is written for them
 unfoldable pub fed : Feeding → List ℕ → Feeding
 fed f [] = f
 fed f (c ∷ rest) = fed (fedByte f c) rest
 
-unfoldable pub said : Feeding → List ℕ → List ℕ
-said f [] = []
-said f (c ∷ rest) = saidByte f c ++ said (fedByte f c) rest
+unfoldable pub saidBy : (rules.Bench → Option Request → List ℕ) → Feeding → List ℕ → List ℕ
+saidBy say f [] = []
+saidBy say f (c ∷ rest) = saidByteBy say f c ++ saidBy say (fedByte f c) rest
 
 -- The end of the input: a last line that lacks its 0a is answered if it has at least one character.
-unfoldable pub saidAtEnd : Feeding → List ℕ
-saidAtEnd f = if eqb (f .count) 0 then [] else saidByte f 10
+unfoldable pub saidAtEndBy : (rules.Bench → Option Request → List ℕ) → Feeding → List ℕ
+saidAtEndBy say f = if eqb (f .count) 0 then [] else saidByteBy say f 10
 
--- how many bytes are taken at once: all, or as many as surely have room for their answers
+-- where the answers are written
+abbrev pub saidByte : Feeding → ℕ → List ℕ
+saidByte = saidByteBy answerLine
+
+abbrev pub said : Feeding → List ℕ → List ℕ
+said = saidBy answerLine
+
+abbrev pub saidAtEnd : Feeding → List ℕ
+saidAtEnd = saidAtEndBy answerLine
+
+-- how many bytes are taken at once: all, or as many as surely have room for what is written for them, at most `width` bytes for each; and with 3, the
+-- room for answers
+abbrev pub takenBy : ℕ → List ℕ → List ℕ → ℕ
+takenBy width input out = min (length input) (length out / width)
+
 abbrev pub taken : List ℕ → List ℕ → ℕ
-taken input out = min (length input) (length out / 3)
+taken = takenBy 3
 
 -- four arrays and a line that has begun
 abbrev pub feedingOf : List ℕ → List ℕ → List ℕ → List ℕ → ℕ → ℕ → Feeding
 feedingOf parents states reads writes count value = record { bench = view parents states reads writes; count = count; value = value }
 
 -- Bytes have been fed: what stands now in the arrays and of the line, what was written from place `at` on, and up to where.
-pub record FedBytes (from : Feeding) (bytes out : List ℕ) (at : ℕ) (now : Feeding) (out' : List ℕ) (at' : ℕ) : Type 0 where
+pub record FedBytesBy (say : rules.Bench → Option Request → List ℕ) (from : Feeding) (bytes out : List ℕ) (at : ℕ) (now : Feeding) (out' : List ℕ) (at' : ℕ) : Type 0 where
   pub is : now ≡ fed from bytes
-  pub wrote : out' ≡ sets out at (said from bytes)
-  pub upTo : at' ≡ at + length (said from bytes)
+  pub wrote : out' ≡ sets out at (saidBy say from bytes)
+  pub upTo : at' ≡ at + length (saidBy say from bytes)

@@ -70,15 +70,25 @@ answered b (some r) = step readWrite b r
 abbrev pub answerText : ℕ → List ℕ
 answerText a = 48 ∷ hexDigit a ∷ 10 ∷ []
 
--- what is written for lines, and the bench that they leave
-unfoldable pub written : rules.Bench → List (List ℕ) → List ℕ
-written b [] = []
-written b (line ∷ rest) = let o = answered b (requestOf line) in answerText (o .answer) ++ written (o .next) rest
+-- the answer's line, from the bench before it
+abbrev pub answerLine : rules.Bench → Option Request → List ℕ
+answerLine b q = answerText (answered b q .answer)
+
+-- what is written for lines, where `say` gives what is written for one, and the bench that they leave
+unfoldable pub writtenBy : (rules.Bench → Option Request → List ℕ) → rules.Bench → List (List ℕ) → List ℕ
+writtenBy say b [] = []
+writtenBy say b (line ∷ rest) = say b (requestOf line) ++ writtenBy say (answered b (requestOf line) .next) rest
+
+abbrev pub written : rules.Bench → List (List ℕ) → List ℕ
+written = writtenBy answerLine
 
 unfoldable pub leftBy : rules.Bench → List (List ℕ) → rules.Bench
 leftBy b [] = b
 leftBy b (line ∷ rest) = leftBy (answered b (requestOf line) .next) rest
 
--- A trace's output, from an empty bench.
-unfoldable pub outputOf : List ℕ → List ℕ
-outputOf trace = written rules.empty (linesOf trace)
+-- What is written for a trace, from an empty bench; its answers are the trace's output.
+unfoldable pub outputBy : (rules.Bench → Option Request → List ℕ) → List ℕ → List ℕ
+outputBy say trace = writtenBy say rules.empty (linesOf trace)
+
+abbrev pub outputOf : List ℕ → List ℕ
+outputOf = outputBy answerLine

@@ -10,17 +10,18 @@ use Rattle.digits.specs.Digits.{digitOf}
 use Rattle.rules.specs.Tests.{if_then_else_}
 use Rattle.rules.specs.Bench as rules
 use Rattle.rules.specs.Requests.{Request}
-use Rattle.lines.specs.Lines.{byteOf, answered, answerText}
-use Rattle.lines.specs.Feeding.{Feeding, between, framed, heldRequest, fed, said, FedBytes}
+use Rattle.lines.specs.Lines.{byteOf, answered}
+use Rattle.lines.specs.Feeding.{Feeding, between, framed, heldRequest, fed, saidBy, FedBytesBy}
 
 -- what two characters write, and 256 where one of them is no digit
 abbrev pub pairOf : ℕ → ℕ → ℕ
 pairOf high low = if ltb (digitOf high) 16 && ltb (digitOf low) 16 then byteOf high low else 256
 
--- These bytes end the line that has begun, with `count` digits that write `value`, and its request is `r`: from every bench they are answered as r is.
+-- These bytes end the line that has begun, with `count` digits that write `value`, and its request is `r`: from every bench they lead where r leads, and what
+-- is written for them is what is written for r.
 pub record EndsAs (count value : ℕ) (bytes : List ℕ) (r : Option Request) : Type 0 where
   pub leads : (b : rules.Bench) → fed (record { bench = b; count = count; value = value }) bytes ≡ between (answered b r .next)
-  pub says : (b : rules.Bench) → said (record { bench = b; count = count; value = value }) bytes ≡ answerText (answered b r .answer)
+  pub says : (say : rules.Bench → Option Request → List ℕ) (b : rules.Bench) → saidBy say (record { bench = b; count = count; value = value }) bytes ≡ say b r
 
 -- Where a size is given, so many bytes of the input from place `at` on are what is left of the line, and this is its frame.
 pub record WholeLine (count value : ℕ) (input : List ℕ) (at code x y size : ℕ) : Type 0 where
@@ -44,7 +45,7 @@ pub record NextEnd (count value : ℕ) (input : List ℕ) (at code x y size : �
   pub ends : (size ≡ 0 → ⊥) → EndsAs count value (take size (drop at input)) (framed code x y)
 
 -- The input has been fed from place `at` on to place `at'`, farther on.
-pub record FedOn (from : Feeding) (input : List ℕ) (at at' : ℕ) (out : List ℕ) (written : ℕ) (now : Feeding) (out' : List ℕ) (written' : ℕ) : Type 0 where
+pub record FedOnBy (say : rules.Bench → Option Request → List ℕ) (from : Feeding) (input : List ℕ) (at at' : ℕ) (out : List ℕ) (written : ℕ) (now : Feeding) (out' : List ℕ) (written' : ℕ) : Type 0 where
   pub moved : at < at'
   pub within : at' ≤ length input
-  pub bytes : FedBytes from (take (at' - at) (drop at input)) out written now out' written'
+  pub bytes : FedBytesBy say from (take (at' - at) (drop at input)) out written now out' written'

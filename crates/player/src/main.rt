@@ -1,8 +1,6 @@
 // Plays a trace: lines on standard input, one answer line for each on standard output. It starts from an empty bench; empty input gives empty output; it
-// ends with its input, or where nobody reads its output any more.
+// ends with its input. Where a read fails, the lines before it are answered and a begun line is not played; where a write fails, it stops.
 use bench::Player;
-use libc::STDIN_FILENO;
-use libc::STDOUT_FILENO;
 
 // The player after a turn, and whether there may be more to play.
 struct Played {
@@ -10,39 +8,46 @@ struct Played {
     goes_on: bool,
 }
 
-// The end of the input: a last line that lacks its 0a gets it.
-fn ended(player: Player) -> Played {
+// The end of the input: a last line that lacks its 0a is answered.
+fn ended(player: Player) {
     let mut out = [0u8; 3];
-    if player.count != 0 {
-        let fed = player.feed(b"\n", &mut out);
-        if fed.written == 3 {
-            io::write_all(STDOUT_FILENO, &out);
-        }
-    }
-    Played {
-        player: player,
-        goes_on: false,
+    let finished = player.finish(&mut out);
+    let written = finished.written;
+    if streams::write_whole(&out[..written]) {
+        streams::done();
+    } else {
+        streams::failed();
     }
 }
 
 // Reads once, plays what came, and writes the answers. Every byte has room for the answer that it may end.
 fn turn(player: Player, input: &mut [u8], out: &mut [u8]) -> Played {
-    let n = io::count(libc::read(STDIN_FILENO, input), input);
+    let got = streams::read_some(input);
+    let n = got.count;
+    if got.failed {
+        streams::failed();
+        return Played {
+            player: player,
+            goes_on: false,
+        };
+    }
     if n == 0 {
-        return ended(player);
+        ended(player);
+        return Played {
+            player: player,
+            goes_on: false,
+        };
     }
     let fed = player.feed(&input[..n], out);
     let written = fed.written;
     let next = fed.player;
-    if out.len() < written {
-        return Played {
-            player: next,
-            goes_on: false,
-        };
+    let goes_on = streams::write_whole(&out[..written]);
+    if !goes_on {
+        streams::failed();
     }
     Played {
         player: next,
-        goes_on: io::write_all(STDOUT_FILENO, &out[..written]),
+        goes_on: goes_on,
     }
 }
 

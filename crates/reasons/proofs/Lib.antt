@@ -1,8 +1,4 @@
--- HeirSets: sets of heirs, and the smallest number of a set.
--- Frames: what a frame's code says of its request, and the answer that the bench's requests give.
--- Telling: the record that `explain` hands back, from the answer and from what its parts found.
+-- Frames: the answer that the bench's requests give to a frame.
 -- Unique: `explain` has one result.
-pub mod HeirSets
 pub mod Frames
-pub mod Telling
 pub mod Unique

@@ -6,8 +6,8 @@ use Rattle.rules.specs.Reasons.{reasonOf}
 use Rattle.lines.specs.Feeding.{framed}
 use Rattle.bench.specs.declared.Bench.{Bench}
 use Rattle.bench.specs.Record.{viewed}
-use Rattle.reasons.specs.declared.Reason.{Reason}
-use Rattle.reasons.specs.Told.{told}
+use Rattle.naming.specs.declared.Reason.{Reason}
+use Rattle.naming.specs.Told.{told}
 
 -- r is what `explain` ensures
 abbrev pub Explains : Bench → ℕ → ℕ → ℕ → Reason → Type 0

@@ -1,32 +1,54 @@
 // Reads a saved text on standard input, writes the answer that loading it gets as two hexadecimal digits and 0a, and where it is accepted the text
-// of the loaded bench saved again.
+// of the loaded bench saved again. Where a read fails nothing is written: what was not read whole is not called good.
 
 // Writes the answer's line.
-fn show(answer: u8) {
-    io::print_hex(1, answer as u64, 2);
-    io::write_all(1, b"\n");
+fn show(answer: u8) -> bool {
+    let line = [
+        digits::character(answer / 16),
+        digits::character(answer),
+        b'\n',
+    ];
+    streams::write_whole(&line)
 }
 
-// Writes the first bytes of a buffer.
-fn show_first(buffer: &[u8], count: usize) {
-    if count <= buffer.len() {
-        io::write_all(1, &buffer[..count]);
+// A refused text: its answer alone.
+fn refuse(answer: u8) {
+    if show(answer) {
+        streams::refused();
+    } else {
+        streams::failed();
+    }
+}
+
+// Loads a text that was read whole, and tells what came of it.
+fn reload(text: &[u8]) {
+    let loaded = saved::load(text);
+    if loaded.answer != 0 {
+        refuse(loaded.answer);
+        return;
+    }
+    let mut buffer = [0u8; 5312];
+    let reply = saved::save(loaded.bench, &mut buffer);
+    let count = reply.count;
+    if show(0) && streams::write_whole(&buffer[..count]) {
+        streams::done();
+    } else {
+        streams::failed();
     }
 }
 
 fn main() {
     // One byte more than the longest text has: input that fills it is longer than any text.
     let mut text = [0u8; 5313];
-    let read = io::read_full(0, &mut text);
-    if read > 5312 {
-        show(8);
+    let got = streams::read_full(&mut text);
+    let read = got.count;
+    if got.failed {
+        streams::failed();
         return;
     }
-    let loaded = saved::load(&text[..read]);
-    show(loaded.answer);
-    if loaded.answer == 0 {
-        let mut buffer = [0u8; 5312];
-        let reply = saved::save(loaded.bench, &mut buffer);
-        show_first(&buffer, reply.count);
+    if read > 5312 {
+        refuse(8);
+        return;
     }
+    reload(&text[..read]);
 }

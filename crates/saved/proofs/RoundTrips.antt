@@ -2,6 +2,7 @@
 -- as itself and what loads saves as itself. No text is longer than 5312 bytes, and one is as long.
 use mathlib.Core.Path.{_≡_, refl, sym, _∙_, ap}
 use mathlib.Core.Bool.{true, false}
+use mathlib.Core.Logic.{_↔_}
 use mathlib.Core.List.{List, [], _++_, append-assoc, append-nil}
 use mathlib.Core.Option.{Option, none, some, Option·none-ne-some}
 use Prim.Native.Nat.{ℕ, zero, suc, _≤_, _<_}
@@ -172,7 +173,7 @@ record-writes-text text b e =
     let said = said-read text b e in
     rw (← said .0) (sym (read-writes text ∙ rw (said .1, drop-length text, append-nil (textOf (readFrom text)))))
 
--- A record that a text says has a text, so that the well-shaped texts are the texts of such records and no others.
+-- A record that a text says has a text.
 pub said-shaped : (text : List ℕ) (b : Bench) → recordIn text ≡ some b → Shaped b
 unfolding actionsIn instrumentsIn
 said-shaped text b e = rw (← said-read text b e .0) (record { fits = fits; actions = λ k l. actions k })
@@ -206,6 +207,27 @@ said-shaped text b e = rw (← said-read text b e .0) (record { fits = fits; act
           readsFit = λ i l. sets i .readsFit;
           writesFit = λ i l. sets i .writesFit;
         }
+
+-- The well-shaped texts are the texts of such records and no others: a text says a record if and only if it is that record's text.
+pub says-exactly : (text : List ℕ) (b : Bench) → (recordIn text ≡ some b) ↔ (Shaped b × (textOf b ≡ text))
+says-exactly text b = (
+  λ e. (said-shaped text b e, record-writes-text text b e),
+  λ p. ap recordIn (sym (p .1)) ∙ text-says-shaped b (p .0),
+)
+
+-- And it says none, so that it loads as 8, if and only if no such record has that text.
+pub says-nothing : (text : List ℕ) → (recordIn text ≡ none) ↔ ((b : Bench) → Shaped b → textOf b ≡ text → ⊥)
+says-nothing text = (
+  λ e b shaped t. none-some (sym e ∙ says-exactly text b .1 (shaped, t)),
+  λ never. one-of (recordIn text) (λ b e. let p = says-exactly text b .0 e in never b (p .0) (p .1)),
+)
+  where
+    none-some : {b : Bench} → none ≡ some b → ⊥
+    none-some e = let z : _≡_ {A = ℕ} 0 1 = cc in omega arith
+
+    one-of : (o : Option Bench) → ((b : Bench) → o ≡ some b → ⊥) → o ≡ none
+    one-of none h = refl
+    one-of (some b) h = absurd (h b refl)
 
 -- ---- save and load
 

@@ -14,7 +14,7 @@ use Rattle.bench.specs.declared.Bench.{Bench}
 use Rattle.bench.specs.Record.{viewed}
 use Rattle.saved.specs.declared.Saved.{Saved}
 use Rattle.saved.specs.Text.{actionCell, instrumentCell, cellsFrom, textOf}
-use Rattle.saved.specs.Saved.{savedAs, bufferAfter}
+use Rattle.saved.specs.Saved.{savedAs, sizedAs, bufferAfter}
 use Rattle.saved.specs.Written.{Written}
 use Rattle.saved.proofs.WrittenFrames.{sets-append}
 
@@ -28,6 +28,13 @@ instrumentsText b = cellsFrom (instrumentCell (b .reads) (b .writes)) 128 0
 pub text-length : (b : Bench) → length (textOf b) ≡ length (actionsText b) + length (instrumentsText b)
 unfolding textOf
 text-length b = length-append (actionsText b) (instrumentsText b)
+
+-- the size of a text that isn't written, and that of one that is
+pub no-size : (b : Bench) → sound readWrite (viewed b) ≡ false → record { answer = 7; count = 0 } ≡ sizedAs b
+no-size b e = rw e
+
+pub whole-size : (b : Bench) (n : ℕ) → sound readWrite (viewed b) ≡ true → n ≡ length (textOf b) → record { answer = 0; count = n } ≡ sizedAs b
+whole-size b n e size = rw (e, size)
 
 -- what is said of a save of b into `before` that hands back r and leaves `after`
 abbrev pub SaveIs : Bench → List ℕ → Saved → List ℕ → Type 0

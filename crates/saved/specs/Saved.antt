@@ -29,6 +29,11 @@ bufferAfter b out =
     then if ltb (length out) (length (textOf b)) then out else textOf b ++ drop (length (textOf b)) out
     else out
 
+-- The size of a bench's text: 7 and 0 where the record isn't sound.
+abbrev pub sizedAs : Bench → Saved
+sizedAs b =
+    if sound readWrite (viewed b) then record { answer = 0; count = length (textOf b) } else record { answer = 7; count = 0 }
+
 -- an empty bench, as a record
 abbrev pub emptyRecord : Bench
 emptyRecord = record { parents = replicate 64 0; states = replicate 64 0; reads = replicate 128 0; writes = replicate 128 0 }

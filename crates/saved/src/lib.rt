@@ -7,7 +7,7 @@ use bench::answers::ACCEPTED;
 use bench::answers::UNSOUND;
 ghost use mathlib.Core.Path.{_≡_};
 ghost use lib.ListN.{length};
-ghost use Rattle.saved.specs.Saved.{savedAs, bufferAfter, emptyRecord, ifSound, loadOf};
+ghost use Rattle.saved.specs.Saved.{savedAs, sizedAs, bufferAfter, emptyRecord, ifSound, loadOf};
 
 // Load: the text is not well-shaped.
 pub const MALFORMED: u8 = 8;
@@ -25,6 +25,23 @@ pub struct Saved {
 pub struct Loaded {
     pub bench: Bench,
     pub answer: u8,
+}
+
+// How many bytes the text of a bench has.
+pub fn text_size(b: Bench) -> Saved
+    ensures { λ r. ⌜ r ≡ sizedAs b ⌝ }
+{
+    let known = b.is_sound();
+    if !known {
+        return Saved {
+            count: 0,
+            answer: UNSOUND,
+        };
+    }
+    Saved {
+        count: write::actions_length(&b.states) + write::instruments_length(&b.reads, &b.writes),
+        answer: ACCEPTED,
+    }
 }
 
 // Writes the text of a bench at the buffer's start. Refused, it writes nothing.

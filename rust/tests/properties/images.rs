@@ -67,6 +67,8 @@ fn assert_as_the_model(draw: &mut Draw, record: &Record, at: &dyn Fn() -> String
         assert!(asked == bench, "refused and changed by {request:?}, {}", at());
     }
     assert_eq!(bench.save(), Err(Refusal::Unsound), "{}", at());
+    assert_eq!(bench.text_size(), Err(Refusal::Unsound), "{}", at());
+    assert_eq!(image::text_size(bench.actions(), bench.owners()), (7, 0), "{}", at());
     if draw.one_in(40) {
         // looking at it doesn't fail
         assert!(format!("{bench:?} {:?} {:?}", bench.heir(0), bench.read_owners(0)).starts_with("UnsoundBench"));
@@ -146,10 +148,12 @@ fn other_lengths_get_7_and_stay() {
                     image::load(&mut a, &mut o, b""),
                     image::load(&mut a, &mut o, b"110101ff\n"),
                     image::play(&mut a, &mut o, &mut progress, b"0101\n", &mut out),
+                    image::finish(&mut a, &mut o, &mut progress, &mut out),
                 ];
                 let at = format!("{many_actions} and {many_owners}");
-                assert_eq!(answers, [7; 11], "{at}");
+                assert_eq!(answers, [7; 12], "{at}");
                 assert_eq!(image::save(&a, &o, &mut out), (7, 0), "{at}");
+                assert_eq!(image::text_size(&a, &o), (7, 0), "{at}");
                 assert!(a == actions && o == owners && out == [0xaa; 6000] && progress == [1, 2, 3, 4], "changed, {at}");
             }
         }
@@ -159,8 +163,9 @@ fn other_lengths_get_7_and_stay() {
 #[test]
 fn another_length_of_progress_gets_7() {
     for many in [0, 1, 2, 3, 5, 8] {
-        let (mut actions, mut owners, mut progress, mut out) = ([0; 128], [0; 256], vec![0; many], [0xaa; 30]);
+        let (mut actions, mut owners, mut progress, mut out) = ([0; 128], [0; 256], vec![1; many], [0xaa; 30]);
         assert_eq!(image::play(&mut actions, &mut owners, &mut progress, b"0101\n", &mut out), 7);
-        assert!(actions == [0; 128] && owners == [0; 256] && out == [0xaa; 30] && progress.iter().all(|&word| word == 0));
+        assert_eq!(image::finish(&mut actions, &mut owners, &mut progress, &mut out), 7);
+        assert!(actions == [0; 128] && owners == [0; 256] && out == [0xaa; 30] && progress.iter().all(|&word| word == 1));
     }
 }

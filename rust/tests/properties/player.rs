@@ -108,19 +108,19 @@ fn traces_cut_anywhere() {
         let mut answers = Vec::new();
         for (turn, piece) in cut(&mut draw, &input, longest).into_iter().enumerate() {
             if turn % 2 == 0 {
-                answers.extend(player.feed(piece));
+                answers.extend(player.feed(piece).unwrap());
             } else {
                 player.feed_into(piece, &mut answers).unwrap();
             }
         }
         if seed % 2 == 0 {
-            answers.extend(player.finish());
+            answers.extend(player.finish().unwrap());
         } else {
             player.finish_into(&mut answers).unwrap();
         }
         assert!(answers == expected, "seed {seed}");
         plain.assert_agrees(player.bench(), &|| format!("seed {seed}, after the trace"));
-        assert!(player.finish().is_empty(), "seed {seed}");
+        assert_eq!(player.finish(), Ok(Vec::new()), "seed {seed}");
         assert!(player.into_bench().is_sound(), "seed {seed}");
     }
 }
@@ -129,25 +129,27 @@ fn traces_cut_anywhere() {
 fn small_buffers() {
     for seed in 41_000..41_200 {
         let mut draw = Draw::new(seed);
-        let (mut input, expected, _) = trace(&mut draw, &MIXES[seed as usize % MIXES.len()], 100, 10);
-        if input.last().is_some_and(|&byte| byte != b'\n') {
-            input.push(b'\n');
-        }
+        let (input, expected, _) = trace(&mut draw, &MIXES[seed as usize % MIXES.len()], 100, 10);
         let (mut actions, mut owners, mut progress, mut answers) = ([0; 128], [0; 256], [0; 4], Vec::<u8>::new());
-        let mut rest = &input[..];
-        while !rest.is_empty() {
-            let room = draw.below(40);
-            let lent = &rest[..draw.below(rest.len() + 1)];
+        let mut at = 0;
+        while at < input.len() {
+            let room = if draw.one_in(4) { draw.below(3) } else { draw.below(40) };
+            let lent = &input[at..at + draw.below(input.len() - at + 1)];
             let mut out = vec![0xaa; room];
+            let before = (actions, owners, progress[0], progress[1]);
             assert_eq!(image::play(&mut actions, &mut owners, &mut progress, lent, &mut out), 0, "seed {seed}");
             let (taken, written) = (progress[2] as usize, progress[3] as usize);
-            assert!(taken <= lent.len() && taken <= room / 3 && written <= 3 * taken, "seed {seed}: took {taken}, wrote {written}");
-            assert!(taken > 0 || lent.is_empty() || room < 3, "seed {seed}: took nothing");
+            assert_eq!(taken, lent.len().min(room / 3), "seed {seed}");
+            assert_eq!(written, 3 * lent[..taken].iter().filter(|&&byte| byte == b'\n').count(), "seed {seed}");
             assert!(out[written..].iter().all(|&byte| byte == 0xaa), "seed {seed}: wrote behind its answers");
-            assert_eq!(progress[0] == 0, taken == 0 && progress[0] == 0 || taken > 0 && lent[taken - 1] == b'\n', "seed {seed}: a begun line");
+            assert!(taken > 0 || before == (actions, owners, progress[0], progress[1]), "seed {seed}: took nothing and changed something");
             answers.extend(&out[..written]);
-            rest = &rest[taken..];
+            at += taken;
+            assert_eq!(progress[0] == 0, at == 0 || input[at - 1] == b'\n', "seed {seed}: a line that has begun, after {at} bytes");
         }
+        let mut out = [0xaa; 3];
+        assert_eq!(image::finish(&mut actions, &mut owners, &mut progress, &mut out), 0, "seed {seed}");
+        answers.extend(&out[..progress[3] as usize]);
         assert!(answers == expected, "seed {seed}");
     }
 }
@@ -165,8 +167,8 @@ fn an_unsound_bench() {
             bench = Bench::from_image(actions, owners);
         }
         let mut player = Player::on(bench.clone());
-        let mut answers = player.feed(&input);
-        answers.extend(player.finish());
+        let mut answers = player.feed(&input).unwrap();
+        answers.extend(player.finish().unwrap());
         let lines = input.strip_suffix(b"\n").unwrap_or(&input).split(|&byte| byte == b'\n');
         let expected: Vec<u8> = lines.flat_map(|line| if request_of(line).is_some() { *b"07\n" } else { *b"08\n" }).collect();
         assert!(answers == expected, "seed {seed}");
@@ -174,16 +176,125 @@ fn an_unsound_bench() {
     }
 }
 
-/// A request with any number of zeros before it is no request.
+/// A request with any number of zeros before it or behind it is no request, and a long line of anything isn't either.
 #[test]
 fn long_lines() {
     let mut player = Player::new();
-    for zeros in (1..600).chain(65_500..65_600).chain([1 << 20, (1 << 20) + 252]) {
-        let mut input = vec![b'0'; zeros];
-        input.extend(b"0107\n030705\n0507\n");
-        assert_eq!(player.feed(&input), b"08\n04\n04\n", "{zeros} zeros");
+    for many in (1..600).chain(65_500..65_600).chain([1 << 20, (1 << 20) + 252]) {
+        let filled = |byte: u8| vec![byte; many];
+        for line in [[&filled(b'0')[..], b"0107"].concat(), [b"0107", &filled(b'0')[..]].concat(), [b"010703", &filled(b'0')[..]].concat()] {
+            assert_eq!(player.feed(&[&line[..], b"\n030705\n0507\n"].concat()).unwrap(), b"08\n04\n04\n", "{many} zeros");
+        }
+        for byte in [b'f', b'\r', 0, 0x80, 0xff] {
+            assert_eq!(player.feed(&[&filled(byte)[..], b"\n"].concat()).unwrap(), b"08\n", "{many} times {byte}");
+        }
     }
     assert!(*player.bench() == Bench::new());
+}
+
+/// Frames that a bench with 1 running would all accept.
+const FRAMES: [&[u8]; 6] = [b"0107", b"020701", b"030105", b"040105", b"0501", b"0601"];
+
+/// A bench with 1 running, and its machine.
+fn with_1_running() -> (Bench, Plain) {
+    let (mut bench, mut plain) = (Bench::new(), Plain::empty());
+    assert_eq!((bench.open_top(1), plain.step(Request::OpenTop(1))), (Ok(()), 0));
+    (bench, plain)
+}
+
+/// Plays one line on a bench with 1 running, with its newline or without, and checks answer and bench.
+fn assert_answered(line: &[u8], ended: bool) -> u8 {
+    let (bench, mut plain) = with_1_running();
+    let expected = request_of(line).map_or(8, |request| plain.step(request));
+    let mut player = Player::on(bench);
+    let mut said = player.feed(line).unwrap();
+    said.extend(if ended { player.feed(b"\n") } else { player.finish() }.unwrap());
+    assert_eq!(said, format!("{expected:02x}\n").into_bytes(), "{:?}", String::from_utf8_lossy(line));
+    plain.assert_agrees(player.bench(), &|| format!("after {:?}", String::from_utf8_lossy(line)));
+    expected
+}
+
+/// Lines that come near a request: each with its newline, and as a last line without it.
+#[test]
+fn lines_that_look_right() {
+    for line in
+        ["010A", "010a0", "03010500", "0301 05", " 030105", "030105 ", "030105\r", "0x0107", "1", "01", "010", "03015", "0701", "00", "0101ff", "FF"]
+    {
+        for ended in [true, false] {
+            assert_eq!(assert_answered(line.as_bytes(), ended), 8, "{line}");
+        }
+    }
+    for frame in FRAMES {
+        for digits in [8, 10, 256, 258, 260, 262, 512, 516, 518, 65_540, 65_542] {
+            let mut line = frame.to_vec();
+            line.resize(digits, b'0');
+            assert_eq!(assert_answered(&line, digits % 4 == 0), 8, "padded to {digits} digits");
+        }
+    }
+}
+
+/// Every byte in the place of every digit of every frame, and before and behind it.
+#[test]
+fn every_byte_in_every_frame() {
+    let mut accepted = 0;
+    for frame in FRAMES {
+        for byte in (0..=255).filter(|&byte| byte != b'\n') {
+            for place in 0..=frame.len() {
+                let mut longer = frame.to_vec();
+                longer.insert(place, byte);
+                assert_eq!(assert_answered(&longer, byte % 2 == 0), 8);
+                if place < frame.len() {
+                    let mut changed = frame.to_vec();
+                    changed[place] = byte;
+                    accepted += u32::from(assert_answered(&changed, byte % 2 == 1) == 0);
+                }
+            }
+        }
+    }
+    assert!(accepted > 100, "{accepted}");
+}
+
+/// The end of the input in every state of a line, on a sound and on an unsound bench, with any room.
+#[test]
+fn the_end_of_the_input() {
+    let unsound = Bench::from_image([0; 128], [1; 256]);
+    let lines = FRAMES.iter().copied().chain([&b""[..], b"x", b"\0", b"\xff", b"0", b"01078", b"0301050", b"03010500"]);
+    for line in lines.flat_map(|line| (0..=line.len()).map(move |long| &line[..long])) {
+        for sound in [true, false] {
+            let (bench, mut plain) = with_1_running();
+            let bench = if sound { bench } else { unsound.clone() };
+            let answer = match request_of(line) {
+                Some(request) if sound => plain.step(request),
+                Some(_) => 7,
+                None => 8,
+            };
+            let at = || format!("{:?}, sound: {sound}", String::from_utf8_lossy(line));
+            let (mut actions, mut owners, mut progress) = (*bench.actions(), *bench.owners(), [0; 4]);
+            assert_eq!(image::play(&mut actions, &mut owners, &mut progress, line, &mut [0xaa; 60]), 0, "{}", at());
+            assert_eq!((progress[2], progress[3], progress[0] != 0), (line.len() as u64, 0, !line.is_empty()), "{}", at());
+            for room in 0..3 {
+                let (begun, mut out) = ([progress[0], progress[1], 0, 0], vec![0xaa; room]);
+                assert_eq!(image::finish(&mut actions, &mut owners, &mut progress, &mut out), 0, "{}", at());
+                assert_eq!(progress, begun, "room for {room}, {}", at());
+                assert!(Bench::from_image(actions, owners) == bench && out == vec![0xaa; room], "room for {room}, {}", at());
+            }
+            let mut expected = [0xaa; 5];
+            if !line.is_empty() {
+                expected[..3].copy_from_slice(format!("{answer:02x}\n").as_bytes());
+            }
+            let mut out = [0xaa; 5];
+            assert_eq!(image::finish(&mut actions, &mut owners, &mut progress, &mut out), 0, "{}", at());
+            assert_eq!((progress, out), ([0, 0, 0, if line.is_empty() { 0 } else { 3 }], expected), "{}", at());
+            let after = Bench::from_image(actions, owners);
+            if sound {
+                plain.assert_agrees(&after, &at);
+            } else {
+                assert!(after == unsound, "{}", at());
+            }
+            assert_eq!(image::finish(&mut actions, &mut owners, &mut progress, &mut out), 0, "{}", at());
+            assert!(Bench::from_image(actions, owners) == after && progress == [0; 4] && out == expected, "ended twice, {}", at());
+        }
+    }
 }
 
 /// A writer that takes only so many bytes.

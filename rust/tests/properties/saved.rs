@@ -78,6 +78,7 @@ fn saved_and_loaded() {
         let at = || format!("seed {seed}");
         let (bench, text) = (record.bench(), record.text());
         assert!(bench.save().as_ref() == Ok(&text), "{}", at());
+        assert_eq!(bench.text_size(), Ok(text.len()), "{}", at());
         assert_eq!(assert_loads_as_the_model(&text, &at), 0, "{}", at());
         for room in [text.len(), text.len() + 1 + draw.below(50), text.len().saturating_sub(1), draw.below(text.len() + 1)] {
             assert_saves(&bench, &text, room, &at);
@@ -91,15 +92,20 @@ fn the_longest_text() {
     assert!(record.sound());
     let text = record.text();
     assert_eq!(text.len(), LONGEST_TEXT);
+    assert_eq!(record.bench().text_size(), Ok(LONGEST_TEXT));
     for room in [0, 1, 5311, 5312, 5313] {
         assert_saves(&record.bench(), &text, room, &at);
     }
     assert_eq!(assert_loads_as_the_model(&text, &at), 0);
     let mut draw = Draw::new(1);
     for place in 0..text.len() {
-        let mut changed = text.clone();
-        changed[place] = draw.of(b"0123456789abcdefABCDEFg\n\r \0");
-        assert_loads_as_the_model(&changed, &|| format!("place {place}"));
+        for others in [&b"0123456789abcdef"[..], b"ABCDEFg\n\r \0\xff"] {
+            let mut changed = text.clone();
+            while changed[place] == text[place] {
+                changed[place] = draw.of(others);
+            }
+            assert_loads_as_the_model(&changed, &|| format!("place {place}"));
+        }
     }
 }
 

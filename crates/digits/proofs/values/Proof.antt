@@ -1,66 +1,95 @@
--- `values` meets its contract. The loop's invariant: the table has the values of the bytes passed. The measure is what is left of the bytes. Assumes nothing.
-use mathlib.Core.Bool.{Bool, true, false}
-use mathlib.Core.List.{List}
+-- `values` meets its contract, by one computed test over the 256 entries. Assumes nothing.
+use mathlib.Core.Bool.{Bool, true, false, _&&_}
+use mathlib.Core.List.{List, [], _∷_}
 use mathlib.Core.Path.{_≡_, refl, _∙_, ap}
-use Prim.Native.Nat.{ℕ, _+_, _-_, _≤_, _<_}
-use native.Mathlib.Nat.{mod-eq-of-lt}
+use Prim.Native.Nat.{ℕ, zero, suc, _+_, _<_}
+use native.Mathlib.Nat.{zero-add}
 use native.Mathlib.Omega.{arith}
 use borrow.Author.Needs.{needs}
-use borrow.Author.Tests.{eqb-true, eqb-false}
+use borrow.Author.Tests.{eqb-true}
 use lib.Dec.{eqb}
-use lib.ListN.{length, getD, set, length-set}
-use lib.Seq.{getD-set-same, getD-set-other}
+use lib.ListN.{length, getD, set, replicate}
 use Rattle.digits.specs.Digits.{digitOf}
 use Rattle.digits.proofs.values.Statement.{statement}
 use Rattle.digits.proofs.values.Tie as tie
 
-abbrev Inv-loop : tie.InvT-loop
-Inv-loop table₀ c₀ table c = (c ≤ 256) × (length table ≡ 256) × ((k : ℕ) → k < c → getD table k 0 ≡ digitOf k)
+-- the table as it is stored
+abbrev table : List ℕ
+table = set (set (set (set (set (set (set (set (set (set (set (set (set (set (set (set (replicate 256 16) 48 0) 49 1) 50 2) 51 3) 52 4) 53 5) 54 6) 55 7) 56 8) 57 9) 97 10) 98 11) 99 12) 100 13) 101 14) 102 15
 
-abbrev μ-loop : tie.MeasureT-loop
-μ-loop table₀ c₀ table c = 256 - c
+-- each entry is the value of its place, counted from i
+abbrev entriesFit : ℕ → List ℕ → Bool
+entriesFit i [] = true
+entriesFit i (v ∷ rest) = eqb v (digitOf i) && entriesFit (suc i) rest
 
--- one more value
-value-more : (table : List ℕ) (c v : ℕ) → length table ≡ 256 → c < 256 → v ≡ digitOf c → ((k : ℕ) → k < c → getD table k 0 ≡ digitOf k) → (k : ℕ) → k < c + 1 → getD (set table c v) k 0 ≡ digitOf k
-value-more table c v long h e known k l = here-or-before (eqb k c) refl
-  where
-    here-or-before : (t : Bool) → eqb k c ≡ t → getD (set table c v) k 0 ≡ digitOf k
-    here-or-before true t = let same = eqb-true k c t in rw same (getD-set-same table c v 0 (omega arith) ∙ e)
-    here-or-before false f =
-        let other = eqb-false k c f in getD-set-other table c k v 0 other ∙ known k (omega (arith, other))
+both-first : (s t : Bool) → (s && t) ≡ true → s ≡ true
+both-first true t h = refl
+both-first false t h = h
 
-loop-holds : tie.Need-loop-holds Inv-loop μ-loop
-loop-holds c = (search needs, search needs, λ k l. absurd (omega arith))
+both-second : (s t : Bool) → (s && t) ≡ true → t ≡ true
+both-second true t h = h
+both-second false t h = absurd (let z : _≡_ {A = ℕ} 0 1 = cc in omega arith)
 
-cast-value : tie.Need-cast-value Inv-loop μ-loop
-cast-value c = search needs
+entry-fits : (l : List ℕ) (i k : ℕ) → entriesFit i l ≡ true → k < length l → getD l k 0 ≡ digitOf (i + k)
+entry-fits [] i k h l = absurd (omega arith)
+entry-fits (v ∷ rest) i zero h l =
+    let here : i + 0 ≡ i = omega arith in
+    rw here (eqb-true v (digitOf i) (both-first (eqb v (digitOf i)) (entriesFit (suc i) rest) h))
+entry-fits (v ∷ rest) i (suc k) h l =
+    let next : i + suc k ≡ suc i + k = omega arith in
+    rw next (entry-fits rest (suc i) k (both-second (eqb v (digitOf i)) (entriesFit (suc i) rest) h) (omega arith))
 
-value-requires : tie.Need-value-requires Inv-loop μ-loop
-value-requires c κs = search needs
-
-array-write-table : tie.Need-array-write-table Inv-loop μ-loop
+array-write-table : tie.Need-array-write-table
 array-write-table c = search needs
 
-add-c : tie.Need-add-c Inv-loop μ-loop
-add-c c = search needs
+array-write-table-2 : tie.Need-array-write-table-2
+array-write-table-2 c = search needs
 
-loop-less : tie.Need-loop-less Inv-loop μ-loop
-loop-less c = search needs
+array-write-table-3 : tie.Need-array-write-table-3
+array-write-table-3 c = search needs
 
-loop-again : tie.Need-loop-again Inv-loop μ-loop
-loop-again c =
-    let l = c .before .before in
-    let h : l .loop .c < 256 = c .before .loop-test .taken in
-    let v = c .value .ensures ∙ ap digitOf (mod-eq-of-lt h) in
-    (omega arith, length-set (l .loop .table) (l .loop .c) (c .value .result) ∙ l .loop .inv .1, value-more (l .loop .table) (l .loop .c) (c .value .result) (l .loop .inv .1) h v (l .loop .inv .2))
+array-write-table-4 : tie.Need-array-write-table-4
+array-write-table-4 c = search needs
 
-returns : tie.Need-returns Inv-loop μ-loop
+array-write-table-5 : tie.Need-array-write-table-5
+array-write-table-5 c = search needs
+
+array-write-table-6 : tie.Need-array-write-table-6
+array-write-table-6 c = search needs
+
+array-write-table-7 : tie.Need-array-write-table-7
+array-write-table-7 c = search needs
+
+array-write-table-8 : tie.Need-array-write-table-8
+array-write-table-8 c = search needs
+
+array-write-table-9 : tie.Need-array-write-table-9
+array-write-table-9 c = search needs
+
+array-write-table-10 : tie.Need-array-write-table-10
+array-write-table-10 c = search needs
+
+array-write-table-11 : tie.Need-array-write-table-11
+array-write-table-11 c = search needs
+
+array-write-table-12 : tie.Need-array-write-table-12
+array-write-table-12 c = search needs
+
+array-write-table-13 : tie.Need-array-write-table-13
+array-write-table-13 c = search needs
+
+array-write-table-14 : tie.Need-array-write-table-14
+array-write-table-14 c = search needs
+
+array-write-table-15 : tie.Need-array-write-table-15
+array-write-table-15 c = search needs
+
+array-write-table-16 : tie.Need-array-write-table-16
+array-write-table-16 c = search needs
+
+returns : tie.Need-returns
 returns c =
-    let l = c .before .loop in
-    let end : 256 ≤ l .c = c .loop-test .left in
-    record { long = l .inv .1; each = λ k h. l .inv .2 k (omega arith) }
+    record { long = refl; each = λ k h. entry-fits table 0 k refl h ∙ ap digitOf (zero-add k) }
 
 pub values-spec : {M : Type 1} → statement M
-values-spec =
-    tie.close
-    (tie.spec Inv-loop μ-loop loop-holds cast-value value-requires array-write-table add-c loop-less loop-again returns)
+values-spec = tie.close (tie.spec array-write-table array-write-table-2 array-write-table-3 array-write-table-4 array-write-table-5 array-write-table-6 array-write-table-7 array-write-table-8 array-write-table-9 array-write-table-10 array-write-table-11 array-write-table-12 array-write-table-13 array-write-table-14 array-write-table-15 array-write-table-16 returns)

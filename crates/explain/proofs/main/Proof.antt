@@ -1,4 +1,4 @@
--- `main` is safe and ends. The loop's invariant: the buffer keeps its length. The measure is the number of turns that are left. Assumes nothing.
+-- `main` is safe and ends. The loop's invariant: the buffers keep their lengths. The measure is the number of turns that are left. Assumes nothing.
 use mathlib.Core.Path.{_≡_}
 use borrow.Author.Needs.{needs}
 use lib.ListN.{length}
@@ -6,10 +6,10 @@ use Rattle.explain.proofs.main.Statement.{statement}
 use Rattle.explain.proofs.main.Tie as tie
 
 abbrev Inv-loop : tie.InvT-loop
-Inv-loop player₀ turns₀ goes-on₀ input₀ player turns goes-on input = length input ≡ 8192
+Inv-loop player₀ turns₀ goes-on₀ input₀ out₀ player turns goes-on input out = (length input ≡ 8192) × (length out ≡ 114688)
 
 abbrev μ-loop : tie.MeasureT-loop
-μ-loop player₀ turns₀ goes-on₀ input₀ player turns goes-on input = turns
+μ-loop player₀ turns₀ goes-on₀ input₀ out₀ player turns goes-on input out = turns
 
 new-requires : tie.Need-new-requires Inv-loop μ-loop
 new-requires c κs = search needs
@@ -22,6 +22,9 @@ sub-turns c = search needs
 
 slice-aggregate-turn : tie.Need-slice-aggregate-turn Inv-loop μ-loop
 slice-aggregate-turn c = search needs
+
+slice-aggregate-turn-2 : tie.Need-slice-aggregate-turn-2 Inv-loop μ-loop
+slice-aggregate-turn-2 c = search needs
 
 turn-requires : tie.Need-turn-requires Inv-loop μ-loop
 turn-requires c κs = search needs
@@ -48,6 +51,7 @@ main-spec =
     loop-holds
     sub-turns
     slice-aggregate-turn
+    slice-aggregate-turn-2
     turn-requires
     loop-less
     loop-again

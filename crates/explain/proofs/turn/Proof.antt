@@ -1,80 +1,92 @@
--- `turn` is safe and ends. The loop's invariant: the bytes explained lie within what came, and that within the buffer. The measure is what is left of them.
--- Assumes nothing.
-use Prim.Native.Nat.{_≤_, _-_}
-use lib.ListN.{length}
+-- `turn` is safe: what is written lies within the buffer. Assumes nothing.
+use mathlib.Core.Path.{sym}
+use lib.Seq.{length-take-le}
 use borrow.Author.Needs.{needs}
+use Rattle.bench.proofs.PlayerFeeding.{written-within}
 use Rattle.explain.proofs.turn.Statement.{statement}
 use Rattle.explain.proofs.turn.Tie as tie
 
-abbrev Inv-loop : tie.InvT-loop
-Inv-loop input n played₀ at₀ played at = (at ≤ n) × (n ≤ length input)
+read-some-requires : tie.Need-read-some-requires
+read-some-requires c κs = search needs
 
-abbrev μ-loop : tie.MeasureT-loop
-μ-loop input n played₀ at₀ played at = n - at
+failed-requires : tie.Need-failed-requires
+failed-requires c κs = search needs
 
-read-requires : tie.Need-read-requires Inv-loop μ-loop
-read-requires c κs = search needs
-
-count-requires : tie.Need-count-requires Inv-loop μ-loop
-count-requires c κs = search needs
-
-ended-requires : tie.Need-ended-requires Inv-loop μ-loop
-ended-requires c κs = search needs
-
-same-length : tie.Need-same-length Inv-loop μ-loop
+same-length : tie.Need-same-length
 same-length c = search needs
 
-returns : tie.Need-returns Inv-loop μ-loop
+returns : tie.Need-returns
 returns c = search needs
 
-loop-holds : tie.Need-loop-holds Inv-loop μ-loop
-loop-holds c = search needs
+ended-requires : tie.Need-ended-requires
+ended-requires c κs = search needs
 
-slice-read-step : tie.Need-slice-read-step Inv-loop μ-loop
-slice-read-step c = search needs
-
-step-requires : tie.Need-step-requires Inv-loop μ-loop
-step-requires c κs = search needs
-
-same-length-2 : tie.Need-same-length-2 Inv-loop μ-loop
+same-length-2 : tie.Need-same-length-2
 same-length-2 c = search needs
 
-returns-2 : tie.Need-returns-2 Inv-loop μ-loop
+returns-2 : tie.Need-returns-2
 returns-2 c = search needs
 
-add-at : tie.Need-add-at Inv-loop μ-loop
-add-at c = search needs
+slice-reshare-prefix-explain : tie.Need-slice-reshare-prefix-explain
+slice-reshare-prefix-explain c = search needs
 
-loop-less : tie.Need-loop-less Inv-loop μ-loop
-loop-less c = search needs
+slice-aggregate-explain : tie.Need-slice-aggregate-explain
+slice-aggregate-explain c = search needs
 
-loop-again : tie.Need-loop-again Inv-loop μ-loop
-loop-again c = search needs
+explain-requires : tie.Need-explain-requires
+explain-requires c κs = search needs
 
-same-length-3 : tie.Need-same-length-3 Inv-loop μ-loop
+slice-reshare-prefix-write-whole : tie.Need-slice-reshare-prefix-write-whole
+slice-reshare-prefix-write-whole c = written-within (c .before .before .before .explain .ensures)
+
+slice-aggregate-write-whole : tie.Need-slice-aggregate-write-whole
+slice-aggregate-write-whole c = sym (length-take-le _ _ (written-within (c .before .before .before .before .explain .ensures)))
+
+write-whole-requires : tie.Need-write-whole-requires
+write-whole-requires c κs = search needs
+
+failed-requires-2 : tie.Need-failed-requires-2
+failed-requires-2 c κs = search needs
+
+same-length-3 : tie.Need-same-length-3
 same-length-3 c = search needs
 
-returns-3 : tie.Need-returns-3 Inv-loop μ-loop
+same-length-4 : tie.Need-same-length-4
+same-length-4 c = search needs
+
+returns-3 : tie.Need-returns-3
 returns-3 c = search needs
+
+same-length-5 : tie.Need-same-length-5
+same-length-5 c = search needs
+
+same-length-6 : tie.Need-same-length-6
+same-length-6 c = search needs
+
+returns-4 : tie.Need-returns-4
+returns-4 c = search needs
 
 pub turn-spec : {M : Type 1} → statement M
 turn-spec =
     tie.close
     (tie.spec
-    Inv-loop
-    μ-loop
-    read-requires
-    count-requires
-    ended-requires
+    read-some-requires
+    failed-requires
     same-length
     returns
-    loop-holds
-    slice-read-step
-    step-requires
+    ended-requires
     same-length-2
     returns-2
-    add-at
-    loop-less
-    loop-again
+    slice-reshare-prefix-explain
+    slice-aggregate-explain
+    explain-requires
+    slice-reshare-prefix-write-whole
+    slice-aggregate-write-whole
+    write-whole-requires
+    failed-requires-2
     same-length-3
-    returns-3)
+    same-length-4
+    returns-3
+    same-length-5
+    same-length-6
+    returns-4)

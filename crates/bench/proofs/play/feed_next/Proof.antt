@@ -1,15 +1,14 @@
--- `feed_next` meets its contract: the end of a line writes its answer, and any other byte only the line's count and value. Assumes nothing.
-use mathlib.Core.Path.{_≡_, refl, ap, sym, _∙_}
+-- `feed_next` meets its contract: the end of a line writes its answer or its reason, and any other byte only the line's count and value. Assumes nothing.
+use mathlib.Core.Path.{refl, sym}
 use Prim.Native.Nat.{_+_, _^_, _≤_, _<_}
 use native.Mathlib.Nat.{add-zero}
 use native.Mathlib.Omega.{arith}
 use borrow.Author.Needs.{needs}
 use lib.ListN.{length}
-use lib.Seq.{length-sets}
-use Rattle.lines.specs.Lines.{answerText}
 use Rattle.lines.proofs.FeedLaws.{line-fed, character-fed, fed-on}
 use Rattle.lines.proofs.LineEnds.{ended-small}
 use Rattle.lines.proofs.WholeLines.{take-characters}
+use Rattle.bench.proofs.PlayerFeeding.{text-said}
 use Rattle.bench.proofs.play.feed_next.Statement.{statement}
 use Rattle.bench.proofs.play.feed_next.Tie as tie
 
@@ -19,43 +18,40 @@ next-end-requires c κs = search needs
 end-line-requires : tie.Need-end-line-requires
 end-line-requires c κs = search needs
 
-put-answer-requires : tie.Need-put-answer-requires
-put-answer-requires c κs =
-    let e = c .before in
+put-line-requires : tie.Need-put-line-requires
+put-line-requires c κs =
+    let e = c .before .before .before .before .before in
     let start = e .before .before .before .before .before .before .before .before .before .before .before .before in
     (start .pre .4, ended-small (e .end-line .ensures .0))
 
-add-t30 : tie.Need-add-t30
-add-t30 c =
-    let e = c .before .before .before .before in
+add-t34 : tie.Need-add-t34
+add-t34 c =
+    let e = c .before .before .before .before .before .before .before .before in
     let found = e .before .before .before .before .before .before .before .before in
     let start = found .before .before .before .before in
     let input = start .args .input .now in
     let within : start .args .place .at + found .before .next-end .result .size ≤ length input = found .before .next-end .ensures .within (found .if1 .taken) in
-    let known : length input < 2 ^ 64 = search (needs, start .good .1 .1 .1 .1 .1 .1 .1 .1 .1 .1 .0) in
-    record { fits = omega arith }
-
-add-t31 : tie.Need-add-t31
-add-t31 c =
-    let e = c .before .before .before .before in
-    let start = e .before .before .before .before .before .before .before .before .before .before .before .before in
-    let room = start .pre .4 in
-    let known : length (start .args .out .now) < 2 ^ 64 = search (needs, start .good .1 .1 .1 .1 .1 .1 .1 .1 .1 .1 .1 .0) in
+    let known : length input < 2 ^ 64 = search (needs, start .good .1 .1 .1 .1 .1 .1 .1 .1 .1 .1 .1 .0) in
     record { fits = omega arith }
 
 same-length : tie.Need-same-length
-same-length c =
-    let e = c .before .before .before .before in
-    let a = e .before .before .before .before .before .before .before .before .before .before .before .before .args in
-    ap length (c .before .before .put-answer .ensures) ∙ length-sets (a .out .now) (a .place .written) (answerText (e .end-line .result))
+same-length c = search needs
 
 returns : tie.Need-returns
 returns c =
-    let e = c .before .before .before .before in
+    let put = c .before .before in
+    let e = put .before .before .before .before .before .before in
     let found = e .before .before .before .before .before .before .before .before in
+    let start = found .before .before .before .before in
     let end = found .before .next-end .ensures in
+    let frame = found .before .next-end .result in
     let some = found .if1 .taken in
-    (fed-on refl some (end .within some) refl (line-fed (end .ends some) (e .end-line .ensures .0) (c .before .before .put-answer .ensures)), e .end-line .ensures .0 .arrays, e .end-line .ensures .1)
+    let ended = e .end-line .ensures .0 in (
+      fed-on refl some (end .within some) refl
+          (line-fed (end .ends some) ended (text-said (start .args .telling) (frame .code) (frame .x) (frame .y) ended) (put .put-line .ensures .wrote) (put .put-line .ensures .upTo)),
+      ended .arrays,
+      e .end-line .ensures .1,
+    )
 
 shared-slice-read-c : tie.Need-shared-slice-read-c
 shared-slice-read-c c = search needs
@@ -66,8 +62,8 @@ count-after-requires c κs = search needs
 value-after-requires : tie.Need-value-after-requires
 value-after-requires c κs = search needs
 
-add-t35 : tie.Need-add-t35
-add-t35 c = search needs
+add-t38 : tie.Need-add-t38
+add-t38 c = search needs
 
 returns-2 : tie.Need-returns-2
 returns-2 c =
@@ -84,13 +80,12 @@ feed-next-spec =
     (tie.spec
     next-end-requires
     end-line-requires
-    put-answer-requires
-    add-t30
-    add-t31
+    put-line-requires
+    add-t34
     same-length
     returns
     shared-slice-read-c
     count-after-requires
     value-after-requires
-    add-t35
+    add-t38
     returns-2)

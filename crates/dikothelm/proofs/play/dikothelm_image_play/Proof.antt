@@ -5,7 +5,7 @@ use mathlib.Core.Path.{_≡_}
 use mathlib.Core.Bool.{true}
 use Rattle.bench.proofs.Images.{was-image, was-none}
 use Rattle.dikothelm.specs.Calls.{playable}
-use Rattle.dikothelm.proofs.PlayLaws.{none-played, playable-long, chunk-played}
+use Rattle.dikothelm.proofs.PlayLaws.{none-moved, playable-long, chunk-played}
 use Rattle.dikothelm.proofs.play.dikothelm_image_play.Statement.{statement}
 use Rattle.dikothelm.proofs.play.dikothelm_image_play.Tie as tie
 
@@ -25,7 +25,7 @@ returns : tie.Need-returns
 returns c =
     let f = c .before in
     let a = f .before .before .before .before .before .before .before .before .before .args in
-    none-played (a .actions .now) (a .owners .now) (a .progress .now) (a .input .now) (a .out .now)
+    none-moved _ _ _ (a .actions .now) (a .owners .now) (a .progress .now) (a .out .now)
     (was-none (f .is-playable .result) (f .is-playable .ensures) (c .if1 .taken))
 
 -- on the way on from the test of the lengths

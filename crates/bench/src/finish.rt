@@ -1,0 +1,47 @@
+// The end of a trace's input.
+use crate::Fed;
+use crate::Player;
+ghost use Rattle.bench.specs.Finishing.{FinishedAs, FinishedExplainingAs};
+
+impl Player {
+    // Ends the input: a last line that lacks its 0a is answered if it has at least one character; nothing else. Where the buffer has fewer than three bytes
+    // the line stays begun: lend more, and end the input again.
+    pub fn finish(self, out: &mut [u8]) -> Fed
+        ensures { λ r. ⌜ FinishedAs self (now (out .entry)) r (now (out .exit)) ⌝ }
+    {
+        if self.count == 0 {
+            return Fed {
+                player: self,
+                used: 0,
+                written: 0,
+            };
+        }
+        let fed = self.feed(b"\n", out);
+        let player = fed.player;
+        Fed {
+            player: player,
+            used: 0,
+            written: fed.written,
+        }
+    }
+
+    // The same, with the answer's reason. The buffer has to have 14 bytes.
+    pub fn finish_explaining(self, out: &mut [u8]) -> Fed
+        ensures { λ r. ⌜ FinishedExplainingAs self (now (out .entry)) r (now (out .exit)) ⌝ }
+    {
+        if self.count == 0 {
+            return Fed {
+                player: self,
+                used: 0,
+                written: 0,
+            };
+        }
+        let fed = self.explain(b"\n", out);
+        let player = fed.player;
+        Fed {
+            player: player,
+            used: 0,
+            written: fed.written,
+        }
+    }
+}

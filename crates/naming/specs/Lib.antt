@@ -1,0 +1,3 @@
+pub mod Told
+pub mod Blocking
+pub mod Text
