@@ -13,18 +13,12 @@ pub mod PlayerFeeding
 pub mod Copies
 pub mod Changes
 pub mod Images
--- What a reader ends at:
+-- What a reader ends at, beside crates/demands:
 -- Unique: the reading of a record as a bench loses nothing, so each request has one result.
--- KeptSound: from what the methods ensure, soundness is kept.
--- Demands: demands 2 and 3 of what the methods return.
--- Traces: the trace player's output is the definition's, however the input is cut.
-pub mod Unique
 -- UniqueCalls: so have feeding a player and asking an image.
-pub mod UniqueCalls
-pub mod KeptSound
-pub mod Demands
-pub mod Traces
+-- Traces: the trace player's output is the definition's, however the input is cut.
 -- Finishing: what ending the input hands back, and that it gives a trace's last answer.
+pub mod Unique
+pub mod UniqueCalls
+pub mod Traces
 pub mod Finishing
--- Through: a caller who lends three bytes of output or more, and lends the rest again, gets through any input.
-pub mod Through

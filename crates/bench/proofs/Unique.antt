@@ -8,9 +8,10 @@ use native.Mathlib.Omega.{arith}
 use borrow.Author.Tests.{ne-eqb}
 use lib.ListN.{length, getD, replicate, length-replicate, getD-replicate}
 use lib.Seq.{ext-getD}
+use Rattle.sets.specs.Sets.{member}
 use Rattle.sets.proofs.Laws.{same-members}
 use Rattle.rules.specs.Tests.{from}
-use Rattle.rules.specs.Bench.{State, free, running, committed, meaningless, empty}
+use Rattle.rules.specs.Bench.{State, free, running, committed, meaningless}
 use Rattle.rules.specs.Requests.{Request}
 use Rattle.rules.specs.Answers.{Outcome, answerOf, step}
 use Rattle.rules.specs.ReadWrite.{readWrite}
@@ -18,6 +19,7 @@ use Rattle.bench.specs.declared.Bench.{Bench}
 use Rattle.bench.specs.declared.Reply.{Reply}
 use Rattle.views.specs.View.{stateOf, parentOf}
 use Rattle.bench.specs.Record.{viewed, seen}
+use Rattle.bench.specs.Plays.{IsEmpty, Returns}
 
 -- A record as the language has it: the arrays have their lengths, and each set is a word of 64 bits. Of bytes nothing need be said.
 pub record Fits (b : Bench) : Type 0 where
@@ -42,7 +44,8 @@ zeros-fit =
 
 -- ---- a byte is told by what it means
 
-byteOf : State → ℕ
+-- the byte that means a state
+unfoldable pub byteOf : State → ℕ
 byteOf free = 0
 byteOf running = 1
 byteOf committed = 2
@@ -70,6 +73,11 @@ parent-injective p q e = sym (parent-byte p) ∙ ap (λ (o : Option ℕ). from o
 same-lists : (n : ℕ) (l m : List ℕ) → length l ≡ n → length m ≡ n → ((i : ℕ) → i < n → getD l i 0 ≡ getD m i 0) → l ≡ m
 same-lists n l m hl hm e = ext-getD 0 l m (hl ∙ sym hm) (λ i h. e i (rw hl at h))
 
+-- two arrays of sets that have the same members are the same
+pub same-sets : (l m : List ℕ) → length l ≡ 128 → length m ≡ 128 → ((i : ℕ) → i < 128 → getD l i 0 < 2 ^ 64) → ((i : ℕ) → i < 128 → getD m i 0 < 2 ^ 64) → ((i k : ℕ) → member (getD l i 0) k ≡ member (getD m i 0) k) → l ≡ m
+same-sets l m hl hm fl fm e =
+    same-lists 128 l m hl hm (λ i h. same-members 64 (getD l i 0) (getD m i 0) (fl i h) (fm i h) (λ k below. e i k))
+
 pub view-injective : (b c : Bench) → Fits b → Fits c → viewed b ≡ viewed c → b ≡ c
 view-injective b c fb fc e = λ j. record { parents = parents j; states = states j; reads = reads j; writes = writes j }
   where
@@ -85,32 +93,32 @@ view-injective b c fb fc e = λ j. record { parents = parents j; states = states
 
     reads : b .reads ≡ c .reads
     reads =
-        same-lists 128 (b .reads) (c .reads) (fb .readsLong) (fc .readsLong)
-        (λ i l. same-members 64 (getD (b .reads) i 0) (getD (c .reads) i 0)
-        (fb .readsFit i l) (fc .readsFit i l) (λ k h. ap (λ v. v .stands 0 i k) e))
+        same-sets (b .reads) (c .reads) (fb .readsLong) (fc .readsLong) (fb .readsFit) (fc .readsFit) (λ i k. ap (λ v. v .stands 0 i k) e)
 
     writes : b .writes ≡ c .writes
     writes =
-        same-lists 128 (b .writes) (c .writes) (fb .writesLong) (fc .writesLong)
-        (λ i l. same-members 64 (getD (b .writes) i 0) (getD (c .writes) i 0)
-        (fb .writesFit i l) (fc .writesFit i l) (λ k h. ap (λ v. v .stands 1 i k) e))
+        same-sets (b .writes) (c .writes) (fb .writesLong) (fc .writesLong) (fb .writesFit) (fc .writesFit) (λ i k. ap (λ v. v .stands 1 i k) e)
 
 -- ---- results
 
--- Each request has one result: replies that are read as the same outcome are the same reply.
-pub reply-unique : (x y : Reply) → Fits (x .bench) → Fits (y .bench) → (o : Outcome) → seen x ≡ o → seen y ≡ o → x ≡ y
-reply-unique x y fx fy o ex ey = λ j. record { bench = bench j; answer = ap (λ v. v .answer) (ex ∙ sym ey) j }
+-- replies that are read as the same outcome are the same reply
+pub same-reply : (x y : Reply) → Fits (x .bench) → Fits (y .bench) → (o : Outcome) → seen x ≡ o → seen y ≡ o → x ≡ y
+same-reply x y fx fy o ex ey = λ j. record { bench = bench j; answer = ap (λ v. v .answer) (ex ∙ sym ey) j }
   where
     bench : x .bench ≡ y .bench
     bench = view-injective (x .bench) (y .bench) fx fy (ap (λ v. v .next) (ex ∙ sym ey))
 
+-- Each request has one result on each record.
+pub reply-unique : (b : Bench) (q : Request) (x y : Reply) → Fits (x .bench) → Fits (y .bench) → Returns b q x → Returns b q y → x ≡ y
+reply-unique b q x y fx fy = same-reply x y fx fy (step readWrite (viewed b) q)
+
 -- A request that is refused hands the record back as it came.
-pub refused-as-it-came : (b : Bench) (r : Reply) (q : Request) → Fits b → Fits (r .bench) → seen r ≡ step readWrite (viewed b) q → (r .answer ≡ 0 → ⊥) → r .bench ≡ b
+pub refused-as-it-came : (b : Bench) (r : Reply) (q : Request) → Fits b → Fits (r .bench) → Returns b q r → (r .answer ≡ 0 → ⊥) → r .bench ≡ b
 unfolding step
 refused-as-it-came b r q fb fr e nonzero =
     view-injective (r .bench) b fr fb
     (ap (λ v. v .next) e ∙ rw (ne-eqb (answerOf readWrite (viewed b) q) 0 (λ z. nonzero (ap (λ v. v .answer) e ∙ z))))
 
 -- There is one empty record.
-pub empty-unique : (x y : Bench) → Fits x → Fits y → viewed x ≡ empty → viewed y ≡ empty → x ≡ y
+pub empty-unique : (x y : Bench) → Fits x → Fits y → IsEmpty x → IsEmpty y → x ≡ y
 empty-unique x y fx fy ex ey = view-injective x y fx fy (ex ∙ sym ey)

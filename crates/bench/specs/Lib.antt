@@ -3,5 +3,4 @@ pub mod Plays
 pub mod Feeding
 pub mod Feeds
 pub mod Finishing
-pub mod Through
 pub mod Image

@@ -2,6 +2,7 @@
 use mathlib.Core.List.{List, [], _∷_}
 use mathlib.Core.Path.{_≡_}
 use Prim.Native.Nat.{ℕ}
+use Rattle.rules.specs.Bench.{empty}
 use Rattle.rules.specs.Requests.{Request}
 use Rattle.rules.specs.Answers.{step}
 use Rattle.rules.specs.ReadWrite.{readWrite}
@@ -9,7 +10,11 @@ use Rattle.bench.specs.declared.Bench.{Bench}
 use Rattle.bench.specs.declared.Reply.{Reply}
 use Rattle.bench.specs.Record.{viewed, seen}
 
--- r is what the method of request q returns on record b: the `ensures` of each of the six.
+-- r is what `Bench::empty` returns.
+abbrev pub IsEmpty : Bench → Type 0
+IsEmpty r = viewed r ≡ empty
+
+-- r is what the method of request q returns on record b: each of the six ensures it in these words.
 abbrev pub Returns : Bench → Request → Reply → Type 0
 Returns b q r = seen r ≡ step readWrite (viewed b) q
 

@@ -1,4 +1,5 @@
 // The answers: 7 where the record isn't sound, and else the first row of document 01's table that applies.
+use crate::Bench;
 use crate::tree::heirs_in_line;
 use crate::tree::running_child;
 use soundness::index::FREE;
@@ -44,7 +45,7 @@ pub const MALFORMED: u8 = 8;
 pub(crate) fn open_top_row(states: &[u8; 64], n: u32) -> u8
     ensures { λ r. ⌜ r ≡ row readWrite (tree [] (now (states .entry))) (openTop n) ⌝ }
 {
-    if 64 <= n {
+    if Bench::ACTIONS <= n {
         return NO_SUCH_ACTION;
     }
     if states[n as usize] != FREE {
@@ -57,10 +58,10 @@ pub(crate) fn open_top_row(states: &[u8; 64], n: u32) -> u8
 pub(crate) fn open_sub_row(states: &[u8; 64], n: u32, p: u32) -> u8
     ensures { λ r. ⌜ r ≡ row readWrite (tree [] (now (states .entry))) (openSub n p) ⌝ }
 {
-    if 64 <= n {
+    if Bench::ACTIONS <= n {
         return NO_SUCH_ACTION;
     }
-    if 64 <= p {
+    if Bench::ACTIONS <= p {
         return NO_SUCH_ACTION;
     }
     if states[n as usize] != FREE {
@@ -77,7 +78,7 @@ pub(crate) fn commit_row<'a>(parents: &'a [u8; 64], states: &'a [u8; 64], busy: 
     requires { ⌜ KnowsChild (now parents) (now states) a «busy» ⌝ }
     ensures { λ r. ⌜ r ≡ row readWrite (tree (now (parents .entry)) (now (states .entry))) (commit a) ⌝ }
 {
-    if 64 <= a {
+    if Bench::ACTIONS <= a {
         return NO_SUCH_ACTION;
     }
     if states[a as usize] != RUNNING {
@@ -93,7 +94,7 @@ pub(crate) fn commit_row<'a>(parents: &'a [u8; 64], states: &'a [u8; 64], busy: 
 pub(crate) fn abort_row(states: &[u8; 64], a: u32) -> u8
     ensures { λ r. ⌜ r ≡ row readWrite (tree [] (now (states .entry))) (abort a) ⌝ }
 {
-    if 64 <= a {
+    if Bench::ACTIONS <= a {
         return NO_SUCH_ACTION;
     }
     if states[a as usize] != RUNNING {
@@ -115,10 +116,10 @@ pub(crate) fn ask_row<'a>(
     requires { ⌜ SoundTree (now parents) (now states) × InUse (now states) owners × KnowsChild (now parents) (now states) a «busy» × KnowsLine (now parents) (now states) a line ⌝ }
     ensures { λ r. ⌜ r ≡ rowBy (λ m asker at. ownersInLine (now (parents .entry)) (now (states .entry)) owners asker) readWrite (tree (now (parents .entry)) (now (states .entry))) (ask 0 a i) ⌝ }
 {
-    if 64 <= a {
+    if Bench::ACTIONS <= a {
         return NO_SUCH_ACTION;
     }
-    if 128 <= i {
+    if Bench::INSTRUMENTS <= i {
         return NO_SUCH_INSTRUMENT;
     }
     let first = commit_row(parents, states, busy, a);
@@ -142,7 +143,7 @@ fn looked_up_ask_row<'a>(
     requires { ⌜ SoundTree (now parents) (now states) × InUse (now states) owners ⌝ }
     ensures { λ r. ⌜ r ≡ rowBy (λ m asker at. ownersInLine (now (parents .entry)) (now (states .entry)) owners asker) readWrite (tree (now (parents .entry)) (now (states .entry))) (ask 0 a i) ⌝ }
 {
-    let busy = running_child(parents, states, (a % 64) as u8 + 1);
+    let busy = running_child(parents, states, (a % Bench::ACTIONS) as u8 + 1);
     ask_row(parents, states, busy, 0, owners, a, i)
 }
 
@@ -190,7 +191,7 @@ pub(crate) fn read_answer<'a>(
     if !sound(parents, states, reads, writes) {
         return UNSOUND;
     }
-    let at = (i % 128) as usize;
+    let at = (i % Bench::INSTRUMENTS) as usize;
     looked_up_ask_row(parents, states, writes[at], a, i)
 }
 
@@ -207,7 +208,7 @@ pub(crate) fn write_answer<'a>(
     if !sound(parents, states, reads, writes) {
         return UNSOUND;
     }
-    let at = (i % 128) as usize;
+    let at = (i % Bench::INSTRUMENTS) as usize;
     looked_up_ask_row(parents, states, sets::union(reads[at], writes[at]), a, i)
 }
 
@@ -223,7 +224,7 @@ pub(crate) fn commit_answer<'a>(
     if !sound(parents, states, reads, writes) {
         return UNSOUND;
     }
-    let busy = running_child(parents, states, (a % 64) as u8 + 1);
+    let busy = running_child(parents, states, (a % Bench::ACTIONS) as u8 + 1);
     commit_row(parents, states, busy, a)
 }
 

@@ -20,9 +20,9 @@ ghost use Rattle.rules.specs.Bench.{empty};
 ghost use Rattle.rules.specs.Owners.{inFamily};
 ghost use Rattle.rules.specs.Sound.{sound};
 ghost use Rattle.rules.specs.Requests.{openTop, openSub, commit, abort, without};
-ghost use Rattle.rules.specs.Answers.{step};
 ghost use Rattle.rules.specs.ReadWrite.{readWrite, read, write};
-ghost use Rattle.bench.specs.Record.{viewed, seen};
+ghost use Rattle.bench.specs.Record.{viewed};
+ghost use Rattle.bench.specs.Plays.{IsEmpty, Returns};
 ghost use Rattle.lines.specs.Feeding.{between};
 ghost use Rattle.bench.specs.Feeding.{feeding};
 
@@ -64,7 +64,7 @@ impl Bench {
 
     // An empty bench: all numbers free and all sets empty.
     pub fn empty() -> Bench
-        ensures { λ r. ⌜ viewed r ≡ empty ⌝ }
+        ensures { λ r. ⌜ IsEmpty r ⌝ }
     {
         Bench {
             parents: [0u8; 64],
@@ -83,7 +83,7 @@ impl Bench {
 
     // Makes n a running top action.
     pub fn open_top(mut self, n: u32) -> Reply
-        ensures { λ r. ⌜ seen r ≡ step readWrite (viewed self) (openTop n) ⌝ }
+        ensures { λ r. ⌜ Returns self (openTop n) r ⌝ }
     {
         let answer = answers::open_top_answer(
             &self.parents,
@@ -93,7 +93,7 @@ impl Bench {
             n,
         );
         if answer == ACCEPTED {
-            let at = (n % 64) as usize;
+            let at = (n % Bench::ACTIONS) as usize;
             self.states[at] = RUNNING;
         }
         Reply {
@@ -104,7 +104,7 @@ impl Bench {
 
     // Makes n a running action with parent p.
     pub fn open_sub(mut self, n: u32, p: u32) -> Reply
-        ensures { λ r. ⌜ seen r ≡ step readWrite (viewed self) (openSub n p) ⌝ }
+        ensures { λ r. ⌜ Returns self (openSub n p) r ⌝ }
     {
         let answer = answers::open_sub_answer(
             &self.parents,
@@ -115,9 +115,9 @@ impl Bench {
             p,
         );
         if answer == ACCEPTED {
-            let at = (n % 64) as usize;
+            let at = (n % Bench::ACTIONS) as usize;
             self.states[at] = RUNNING;
-            self.parents[at] = (p % 64) as u8 + 1;
+            self.parents[at] = (p % Bench::ACTIONS) as u8 + 1;
         }
         Reply {
             bench: self,
@@ -127,7 +127,7 @@ impl Bench {
 
     // Adds a to the read set of instrument i.
     pub fn read(mut self, a: u32, i: u32) -> Reply
-        ensures { λ r. ⌜ seen r ≡ step readWrite (viewed self) (read a i) ⌝ }
+        ensures { λ r. ⌜ Returns self (read a i) r ⌝ }
     {
         let answer = answers::read_answer(
             &self.parents,
@@ -138,8 +138,8 @@ impl Bench {
             i,
         );
         if answer == ACCEPTED {
-            let at = (i % 128) as usize;
-            self.reads[at] = sets::with(self.reads[at], (a % 64) as usize);
+            let at = (i % Bench::INSTRUMENTS) as usize;
+            self.reads[at] = sets::with(self.reads[at], (a % Bench::ACTIONS) as usize);
         }
         Reply {
             bench: self,
@@ -149,7 +149,7 @@ impl Bench {
 
     // Adds a to the write set of instrument i.
     pub fn write(mut self, a: u32, i: u32) -> Reply
-        ensures { λ r. ⌜ seen r ≡ step readWrite (viewed self) (write a i) ⌝ }
+        ensures { λ r. ⌜ Returns self (write a i) r ⌝ }
     {
         let answer = answers::write_answer(
             &self.parents,
@@ -160,8 +160,8 @@ impl Bench {
             i,
         );
         if answer == ACCEPTED {
-            let at = (i % 128) as usize;
-            self.writes[at] = sets::with(self.writes[at], (a % 64) as usize);
+            let at = (i % Bench::INSTRUMENTS) as usize;
+            self.writes[at] = sets::with(self.writes[at], (a % Bench::ACTIONS) as usize);
         }
         Reply {
             bench: self,
@@ -184,7 +184,7 @@ impl Bench {
 
     // A sub becomes committed and no owner set changes; a top and all its descendants become free and leave all sets.
     pub fn commit(mut self, a: u32) -> Reply
-        ensures { λ r. ⌜ seen r ≡ step readWrite (viewed self) (commit a) ⌝ }
+        ensures { λ r. ⌜ Returns self (commit a) r ⌝ }
     {
         let answer = answers::commit_answer(
             &self.parents,
@@ -199,7 +199,7 @@ impl Bench {
                 answer: answer,
             };
         }
-        let at = (a % 64) as usize;
+        let at = (a % Bench::ACTIONS) as usize;
         if self.parents[at] == 0 {
             let next = self.without_family(at);
             return Reply {
@@ -216,7 +216,7 @@ impl Bench {
 
     // a and all its descendants, running or committed, become free and leave all sets.
     pub fn abort(mut self, a: u32) -> Reply
-        ensures { λ r. ⌜ seen r ≡ step readWrite (viewed self) (abort a) ⌝ }
+        ensures { λ r. ⌜ Returns self (abort a) r ⌝ }
     {
         let answer = answers::abort_answer(
             &self.parents,
@@ -226,7 +226,7 @@ impl Bench {
             a,
         );
         if answer == ACCEPTED {
-            let freed = tree::family(&self.parents, (a % 64) as usize);
+            let freed = tree::family(&self.parents, (a % Bench::ACTIONS) as usize);
             clear::clear_bytes(&mut self.parents, freed);
             clear::clear_bytes(&mut self.states, freed);
             clear::clear_sets(&mut self.reads, freed);

@@ -8,12 +8,12 @@ use Prim.Native.Nat.{ℕ, zero, suc}
 use lib.Dec.{eqb}
 use Rattle.rules.specs.Tests.{if_then_else_, _⇒_, all, any, from}
 use Rattle.rules.specs.Bench.{Shape, State, running, committed, meaningless, Bench, empty}
-use Rattle.rules.specs.Owners.{above, isAncestor, inFamily, nearest, heir, isAskerOrAncestor, heirInLine, granted, hasRunningChild}
+use Rattle.rules.specs.Owners.{isChild, above, isAncestor, inFamily, nearest, heir, isAskerOrAncestor, heirInLine, granted, hasRunningChild}
 use Rattle.rules.specs.Requests.{Request, openTop, openSub, commit, effect, put}
 use Rattle.rules.specs.Sound.{meansSomething, standsNowhere, reachesTop, rule1, rule2, rule3, rule4, sound}
 use Rattle.rules.specs.Answers.{rowBy, answerOf, step, after}
 use Rattle.rules.specs.SetForm.{upwardWithin, inUpward, downwardWithin, inDownward, grantedBySets}
-use Rattle.rules.specs.ReadWrite.{reading, readWrite, write}
+use Rattle.rules.specs.ReadWrite.{reading, writing, readWrite, write}
 
 abbrev pub small : Shape
 small = record { actions = 4; instruments = 2; modes = 2; conflict = readWrite .conflict }
@@ -33,6 +33,11 @@ siblingDone : Bench
 unfolding reached
 siblingDone = reached (openTop 1 ∷ openSub 2 1 ∷ openSub 3 1 ∷ write 2 0 ∷ commit 2 ∷ [])
 
+-- top 0; 1 and 2 under 0; 3 under 2; write 1, 0; commit 1
+nephewTold : Bench
+unfolding reached
+nephewTold = reached (openTop 0 ∷ openSub 1 0 ∷ openSub 2 0 ∷ openSub 3 2 ∷ write 1 0 ∷ commit 1 ∷ [])
+
 -- ---- wrong rules
 
 -- a rule by what it says of the numbers in the sets: `fits a k` for asker a
@@ -43,6 +48,14 @@ grantedIf fits sh b m a i =
 -- a downward set without upward sets: one fixed when its action opens, before any other commits
 fitsFixed : Shape → Bench → ℕ → ℕ → Bool
 fitsFixed sh b a k = isAncestor sh b k a || eqb k a || inUpward sh b a k
+
+-- a downward set that hears of commits under its action's own parent alone: told to siblings, and not to their descendants
+fitsTold : Shape → Bench → ℕ → ℕ → Bool
+fitsTold sh b a k = isAncestor sh b k a || from (b .parent a) false (λ p. inUpward sh b p k) || eqb k a || inUpward sh b a k
+
+-- a downward set with the parent's other children, running or committed
+fitsRunning : Shape → Bench → ℕ → ℕ → Bool
+fitsRunning sh b a k = isAncestor sh b k a || from (b .parent a) false (λ p. isChild b p k) || eqb k a || inUpward sh b a k
 
 -- the top action of k, n steps up at most
 topOf : ℕ → (ℕ → Option ℕ) → ℕ → ℕ
@@ -57,6 +70,16 @@ fitsTop sh b a k = eqb (topOf (sh .actions) (b .parent) k) (topOf (sh .actions) 
 fixed-sets-refuse : (sound small siblingDone ≡ true) × (granted small siblingDone reading 3 0 ≡ true) × (grantedBySets small siblingDone reading 3 0 ≡ true) × (grantedIf (fitsFixed small siblingDone) small siblingDone reading 3 0 ≡ false)
 unfolding siblingDone grantedIf fitsFixed upwardWithin inUpward downwardWithin inDownward grantedBySets
 fixed-sets-refuse = (refl, refl, refl, refl)
+
+-- A commit told to siblings only: sibling 2 is given what 1 handed up, and 2's child 3, which the rule and the set form give it too, is refused.
+told-to-siblings-refuses : (sound small nephewTold ≡ true) × (granted small nephewTold writing 3 0 ≡ true) × (grantedBySets small nephewTold writing 3 0 ≡ true) × (grantedIf (fitsTold small nephewTold) small nephewTold writing 2 0 ≡ true) × (grantedIf (fitsTold small nephewTold) small nephewTold writing 3 0 ≡ false)
+unfolding nephewTold grantedIf fitsTold upwardWithin inUpward downwardWithin inDownward grantedBySets
+told-to-siblings-refuses = (refl, refl, refl, refl, refl)
+
+-- Upward sets of running children grant what a running sibling holds; the set form doesn't.
+running-children-grant : (granted small siblings reading 3 0 ≡ false) × (grantedBySets small siblings reading 3 0 ≡ false) × (grantedIf (fitsRunning small siblings) small siblings reading 3 0 ≡ true)
+unfolding siblings grantedIf fitsRunning upwardWithin inUpward downwardWithin inDownward grantedBySets
+running-children-grant = (refl, refl, refl)
 
 -- The same top action grants what a running sibling holds.
 same-top-grants : (sound small siblings ≡ true) × (granted small siblings reading 3 0 ≡ false) × (grantedIf (fitsTop small siblings) small siblings reading 3 0 ≡ true)

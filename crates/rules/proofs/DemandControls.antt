@@ -1,9 +1,11 @@
 -- Controls of demand 2: both machines computed on document 01's sessions and on a small table, and near variants of them that a list of requests
 -- tells apart from the step.
 use mathlib.Core.Path.{_≡_, refl, sym, _∙_, ap}
-use mathlib.Core.Bool.{Bool, true, false, _&&_}
+use mathlib.Core.Bool.{Bool, true, false, _&&_, false≢true}
 use mathlib.Core.List.{List, [], _∷_, _++_, map}
-use Prim.Native.Nat.{ℕ}
+use mathlib.Core.Option.{none, some}
+use Prim.Native.Nat.{ℕ, _<_}
+use native.Mathlib.Omega.{arith}
 use lib.Dec.{eqb}
 use borrow.Author.Tests.{eq-eqb}
 use Rattle.rules.specs.Tests.{if_then_else_, all, any}
@@ -63,11 +65,34 @@ whole-trace-agrees : Agrees small (stepped untilCommit) (played untilCommit)
 unfolding stepped played
 whole-trace-agrees = demand-two small empty plainEmpty (empty-sound small) (empty-agrees small) untilCommit .1
 
+-- Whatever machine says the same as the bench there has 1 for the owner, and not 2.
+agreed-owner : (s : Plain) → Agrees small (stepped untilCommit) s → (s .owns writing 1 1 ≡ true) × (s .owns writing 1 2 ≡ false)
+unfolding stepped untilCommit
+agreed-owner s agrees = (
+  agrees .owns writing 1 1 (omega arith) (omega arith) (omega arith),
+  agrees .owns writing 1 2 (omega arith) (omega arith) (omega arith),
+)
+
+-- The plain machine's owners are not the numbers in the bench's sets: once 2 is committed the set has 2, and 1 owns it.
+owners-are-no-members : ((rs : List Request) (m i h : ℕ) → m < 2 → i < 2 → h < 4 → played rs .owns m i h ≡ stepped rs .stands m i h) → ⊥
+unfolding stepped played untilCommit
+owners-are-no-members claim = false≢true (claim untilCommit writing 1 2 (omega arith) (omega arith) (omega arith))
+
+-- top 1; 2 under 1; 3 under 2; abort 1; open top 3: 0
+grandchildFreed : List Request
+grandchildFreed = openTop 1 ∷ openSub 2 1 ∷ openSub 3 2 ∷ abort 1 ∷ openTop 3 ∷ []
+
+-- An abort takes out the children's children too.
+grandchild-freed-holds : BothGive grandchildFreed (0 ∷ 0 ∷ 0 ∷ 0 ∷ 0 ∷ [])
+unfolding stepped played grandchildFreed
+grandchild-freed-holds = (refl, refl)
+
 -- ---- wrong machines
 
--- gives 0 every time; never changes a set; refuses whoever asks; at a sub's commit drops its locks, instead of handing them to its parent
+-- Gives 0 every time; answers well and never changes a set; refuses whoever asks; follows the first request, and afterwards answers and changes plausibly,
+-- every sub a top action; at a sub's commit drops its locks, instead of handing them to its parent.
 data Wrong : Type 0 where
-  givesAll keepsSets refusesAsks dropsLocks : Wrong
+  givesAll keepsSets refusesAsks rightOnce dropsLocks : Wrong
 
 withSets : (ℕ → ℕ → ℕ → Bool) → Bench → Bench
 withSets sets b = record { state = b .state; parent = b .parent; stands = sets }
@@ -81,6 +106,18 @@ refusing b (openSub n p) = answerOf small b (openSub n p)
 refusing b (ask m a i) = 6
 refusing b (commit a) = answerOf small b (commit a)
 refusing b (abort a) = answerOf small b (abort a)
+
+-- what an accepted request does where no set changes
+settled : Bench → Request → Bench
+settled b r = withSets (b .stands) (effect small b r)
+
+-- and where a sub is opened as a top action: an empty bench opens no sub, so the first request is followed
+topped : Bench → Request → Bench
+topped b (openTop n) = effect small b (openTop n)
+topped b (openSub n p) = effect small b (openTop n)
+topped b (ask m a i) = effect small b (ask m a i)
+topped b (commit a) = effect small b (commit a)
+topped b (abort a) = effect small b (abort a)
 
 dropping : Plain → Request → Plain
 dropping s (openTop n) = plainEffect s (openTop n)
@@ -96,8 +133,9 @@ repliesBy answer change s (r ∷ rs) = let a = answer s r in a ∷ repliesBy ans
 
 wrongAnswers : Wrong → List Request → List ℕ
 wrongAnswers givesAll = repliesBy (λ b r. 0) (effect small) empty
-wrongAnswers keepsSets = repliesBy (answerOf small) (λ b r. withSets (b .stands) (effect small b r)) empty
+wrongAnswers keepsSets = repliesBy (answerOf small) settled empty
 wrongAnswers refusesAsks = repliesBy refusing (effect small) empty
+wrongAnswers rightOnce = repliesBy (answerOf small) topped empty
 wrongAnswers dropsLocks = repliesBy (plainAnswer small) dropping plainEmpty
 
 -- top 1, 2 under 1; write 2, 0; commit 2; top 3; write 3, 0: 6
@@ -119,18 +157,34 @@ unfolding alike
 alike-itself [] = refl
 alike-itself (x ∷ xs) = rw (eq-eqb x x refl) (alike-itself xs)
 
--- the same list of requests tells all four from the step
+-- the same list of requests tells all five from the step
 wrong-differs : (w : Wrong) → alike (wrongAnswers w handedUp) (answers small empty handedUp) ≡ false
-unfolding stepped played handedUp withSets ownsBoth refusing dropping repliesBy wrongAnswers alike
+unfolding stepped played handedUp withSets ownsBoth refusing settled topped dropping repliesBy wrongAnswers alike
 wrong-differs givesAll = refl
 wrong-differs keepsSets = refl
 wrong-differs refusesAsks = refl
+wrong-differs rightOnce = refl
 wrong-differs dropsLocks = refl
 
 wrong-refuted : (w : Wrong) → ((rs : List Request) → wrongAnswers w rs ≡ answers small empty rs) → ⊥
 wrong-refuted w same =
     let given = wrongAnswers w handedUp in
     clash (alike given (answers small empty handedUp)) (ap (alike given) (sym (same handedUp)) ∙ alike-itself given) (wrong-differs w)
+
+-- the bench that a machine leaves which answers by the rules and changes by `change`
+leftBy : (Bench → Request → Bench) → Bench → List Request → Bench
+leftBy change b [] = b
+leftBy change b (r ∷ rs) = leftBy change (if eqb (answerOf small b r) 0 then change b r else b) rs
+
+-- Two of them are told by the record before any answer. One never changes a set: after write 2, 0 all answers were right, and 2 doesn't stand in the write set.
+never-changes-a-set : (wrongAnswers keepsSets (openTop 2 ∷ write 2 0 ∷ []) ≡ answers small empty (openTop 2 ∷ write 2 0 ∷ [])) × (stepped (openTop 2 ∷ write 2 0 ∷ []) .stands writing 0 2 ≡ true) × (leftBy settled empty (openTop 2 ∷ write 2 0 ∷ []) .stands writing 0 2 ≡ false)
+unfolding stepped withSets settled repliesBy wrongAnswers leftBy
+never-changes-a-set = (refl, refl, refl)
+
+-- One was right once: it leaves the first request's record, and after open sub 2 under 1 all answers were right, the record is sound, and 2 has no parent.
+right-once : (wrongAnswers rightOnce (openTop 1 ∷ openSub 2 1 ∷ []) ≡ answers small empty (openTop 1 ∷ openSub 2 1 ∷ [])) × (leftBy topped empty (openTop 1 ∷ []) ≡ stepped (openTop 1 ∷ [])) × (sound small (leftBy topped empty (openTop 1 ∷ openSub 2 1 ∷ [])) ≡ true) × (stepped (openTop 1 ∷ openSub 2 1 ∷ []) .parent 2 ≡ some 1) × (leftBy topped empty (openTop 1 ∷ openSub 2 1 ∷ []) .parent 2 ≡ none)
+unfolding stepped topped repliesBy wrongAnswers leftBy
+right-once = (refl, refl, refl, refl, refl)
 
 -- ---- the bounds of what the two say
 

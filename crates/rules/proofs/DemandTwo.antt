@@ -1,21 +1,20 @@
 -- Demand 2: from a sound bench on, the bench answers every list of requests exactly as Moss's plain machine does, and the two go on saying the
 -- same. Every sound bench has such a plain machine, and committing a subaction changes no owner set, yet its locks count as its parent's.
 use mathlib.Core.Path.{_≡_, refl, sym, _∙_, ap₂}
-use mathlib.Core.Bool.{true, false, not, _&&_}
+use mathlib.Core.Bool.{true, false, _&&_}
 use mathlib.Core.List.{List, [], _∷_}
 use mathlib.Core.Logic.{_↔_}
-use mathlib.Core.Option.{Option}
-use Prim.Native.Nat.{ℕ, zero, suc, _<_}
+use Prim.Native.Nat.{ℕ, _<_}
 use lib.Dec.{eqb}
 use borrow.Author.Tests.{eqb-true, lt-leb}
 use Rattle.rules.specs.Tests.{from}
-use Rattle.rules.specs.Bench.{Shape, Bench, empty, isFree, isRunning}
+use Rattle.rules.specs.Bench.{Shape, Bench, empty, isRunning}
 use Rattle.rules.specs.Owners.{heir, isOwner, granted, hasRunningChild}
 use Rattle.rules.specs.Sound.{sound}
 use Rattle.rules.specs.Requests.{Request, ask}
 use Rattle.rules.specs.Answers.{rowBy, row, answerOf, step, answers, after}
 use Rattle.rules.specs.Plain.{Plain, plainEmpty, mayOwn, plainAnswer, plainNext, plainAnswers, plainAfter}
-use Rattle.rules.specs.Agrees.{Agrees}
+use Rattle.rules.specs.Agrees.{Agrees, chain, plainOf}
 use Rattle.rules.proofs.Tests.{by-bool, clash, refuted, from-cong, any-at}
 use Rattle.rules.proofs.Walks.{walk-settled}
 use Rattle.rules.proofs.Accepted.{accepted}
@@ -54,28 +53,21 @@ demand-two sh b s ok agrees (r ∷ rs) =
 
 -- ---- every sound bench has its plain machine
 
--- the numbers met going up from k by `up`, n at most
-chain : ℕ → (ℕ → Option ℕ) → ℕ → List ℕ
-chain zero up k = []
-chain (suc n) up k = from (up k) [] (λ p. p ∷ chain n up p)
-
-pub plain-of : (sh : Shape) (b : Bench) → sound sh b ≡ true → (s : Plain) × Agrees sh b s
+pub plain-of : (sh : Shape) (b : Bench) → sound sh b ≡ true → Agrees sh b (plainOf sh b)
 unfolding chain
-plain-of sh b ok = (
-  record {
-    used = λ k. not (isFree (b .state k));
-    runs = λ k. isRunning (b .state k);
-    ancestors = chain (sh .actions) (b .parent);
-    owns = isOwner sh b;
-  },
-  record {
-    used = λ k l. refl;
-    runs = λ k l. refl;
-    ancestors = walk-settled sh b ok (λ n k. chain n (b .parent) k)
-        (λ m n k. from-cong (b .parent k) [] (λ p above. p ∷ above) (chain m (b .parent)) (chain n (b .parent)));
-    owns = λ m i h lm li lh. refl;
-  },
-)
+plain-of sh b ok =
+    record {
+      used = λ k l. refl;
+      runs = λ k l. refl;
+      ancestors = walk-settled sh b ok (λ n k. chain n (b .parent) k)
+          (λ m n k. from-cong (b .parent k) [] (λ p above. p ∷ above) (chain m (b .parent)) (chain n (b .parent)));
+      owns = λ m i h lm li lh. refl;
+    }
+
+-- Demand 2 with nothing for the reader to find: every list of requests to a sound bench gets the answers of the bench's plain machine, and leaves the
+-- two saying the same.
+pub demand-two-of : (sh : Shape) (b : Bench) → sound sh b ≡ true → (rs : List Request) → (answers sh b rs ≡ plainAnswers sh (plainOf sh b) rs) × Agrees sh (after sh b rs) (plainAfter sh (plainOf sh b) rs)
+demand-two-of sh b ok = demand-two sh b (plainOf sh b) ok (plain-of sh b ok)
 
 -- the empty bench has the empty plain machine
 pub empty-agrees : (sh : Shape) → Agrees sh empty plainEmpty

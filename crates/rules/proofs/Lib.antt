@@ -17,7 +17,8 @@ pub mod Accepted
 pub mod Smallest
 -- Theorems about the rules:
 -- Kept: every request on a sound bench leaves a sound bench.
--- Asking: an accepted read or write enters the set, and asking again changes nothing further.
+-- Asking: an accepted read or write enters the set, and asking again gives the same answer and the same bench.
+-- Grants: the four entries of the table of conflicts, and the granting rule in document 01's words, without the table.
 -- SetForm: owner sets held to ancestors, and upward and downward sets, give the rule over heirs.
 -- Reasons: whom an answer names, and that answers 1 to 6 always name somebody.
 -- ReasonControls: reasons computed, and a stronger claim refuted.
@@ -26,6 +27,7 @@ pub mod Smallest
 pub mod Kept
 pub mod Asking
 pub mod SetForm
+pub mod Grants
 pub mod Reasons
 pub mod ReasonControls
 pub mod Sessions
@@ -33,6 +35,7 @@ pub mod Controls
 -- Demand 2, the plain machine:
 -- HeirChanges: how heirs change with each accepted request.
 -- OwnerChanges: how owners change with each accepted request; a committed sub keeps its sets, and its parent owns what it owned.
+-- CommitOwners: the same of a committed sub in document 01's words, its parent in its place among the owners.
 -- PlainAnswers: a sound bench and a plain machine that say the same give every request the same answer.
 -- PlainEffects: a sound bench and a plain machine that say the same still do after every accepted request.
 -- DemandTwo: demand 2, the bench and the plain machine of Moss's rules answer every list of requests alike.
@@ -40,6 +43,7 @@ pub mod Controls
 -- DemandControls: both machines computed, and near variants of them told apart by a list of requests.
 pub mod HeirChanges
 pub mod OwnerChanges
+pub mod CommitOwners
 pub mod PlainAnswers
 pub mod PlainEffects
 pub mod DemandTwo

@@ -4,12 +4,13 @@ use mathlib.Core.Path.{_≡_, refl, sym, _∙_, ap}
 use mathlib.Core.Bool.{Bool, true, false, _&&_, _||_, false≢true}
 use mathlib.Core.List.{List, [], _∷_}
 use Prim.Native.Nat.{ℕ}
+use native.Mathlib.Omega.{arith}
 use lib.Dec.{eqb}
 use borrow.Author.Tests.{eqb-false}
 use Rattle.rules.specs.Tests.{all, any}
 use Rattle.rules.specs.Bench.{Shape, empty}
 use Rattle.rules.specs.Owners.{above, isAncestor, inFamily, nearest, heir, isAskerOrAncestor, heirInLine, granted, hasRunningChild}
-use Rattle.rules.specs.Requests.{Request, openTop, openSub, commit, abort, effect}
+use Rattle.rules.specs.Requests.{Request, openTop, openSub, ask, commit, abort, effect}
 use Rattle.rules.specs.Sound.{standsNowhere, reachesTop, sound}
 use Rattle.rules.specs.Answers.{rowBy, answerOf, step, answers, after}
 use Rattle.rules.specs.ReadWrite.{reading, writing, readWrite, read, write}
@@ -167,6 +168,32 @@ one-writes = later-refused shareNumberOrWrite (write 0 0) (read 1 0) refl 6 refl
 common-number : Answered six (shareInstrument (readWrite .conflict)) → ⊥
 unfolding fromEmpty comesLater
 common-number = later-refused (shareInstrument (readWrite .conflict)) (write 0 0) (abort 0) refl 4 refl refl refl
+
+-- the number that a request is for: an open sub's is the one that it opens, and its parent isn't counted
+abbrev ownNumber : Request → ℕ
+ownNumber (openTop n) = n
+ownNumber (openSub n p) = n
+ownNumber (ask m a i) = a
+ownNumber (commit a) = a
+ownNumber (abort a) = a
+
+abbrev shareOwnNumber : Request → Request → Bool
+shareOwnNumber x y = eqb (ownNumber x) (ownNumber y) || shareInstrument (readWrite .conflict) x y
+
+-- An open sub doesn't name its parent, and the second list opens 1 under the first's 0: merged it gets 0, alone 4.
+parent-not-counted : Answered six shareOwnNumber → ⊥
+unfolding fromEmpty
+parent-not-counted claim =
+    let same : _≡_ {A = List ℕ} (0 ∷ []) (4 ∷ []) = claim (openTop 0 ∷ []) (openSub 1 0 ∷ []) (openTop 0 ∷ openSub 1 0 ∷ []) refl (first (second done)) .1 in
+    let differ : _≡_ {A = ℕ} 0 4 = cc in
+    omega arith
+
+-- Such lists are not apart, and neither are lists that both write an instrument.
+parent-shared : Apart six (openTop 0 ∷ []) (openSub 1 0 ∷ []) → ⊥
+parent-shared apart = apart .numbers 0 refl refl
+
+instrument-written-by-both : Apart six (opened 0 (write 0 0)) (opened 1 (write 1 0)) → ⊥
+instrument-written-by-both apart = false≢true (sym (apart .instruments 0 writing writing refl refl))
 
 -- Write conflicts with a held read alone: a table that isn't symmetric, and the second list's write is refused.
 abbrev lopsided : Shape

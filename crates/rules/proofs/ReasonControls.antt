@@ -51,6 +51,11 @@ smaller-of-two : reasonAfter (openTop 4 ∷ openTop 1 ∷ openTop 2 ∷ read 4 5
 unfolding reasonAfter
 smaller-of-two = refl
 
+-- Tops 1 and 2 read 5; write 1, 5: the asker owns it too, and 2 is named.
+asker-not-named : reasonAfter (openTop 1 ∷ openTop 2 ∷ read 1 5 ∷ read 2 5 ∷ []) (write 1 5) ≡ says 6 (some 2) true false
+unfolding reasonAfter
+asker-not-named = refl
+
 -- Top 1; 2 under 1; 4 under 2; write 4, 5; commit 4; 3 under 1
 inherited : List Request
 inherited = openTop 1 ∷ openSub 2 1 ∷ openSub 4 2 ∷ write 4 5 ∷ commit 4 ∷ openSub 3 1 ∷ []

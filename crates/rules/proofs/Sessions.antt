@@ -11,7 +11,7 @@ use Rattle.rules.specs.Requests.{Request, effect}
 use Rattle.rules.specs.Sound.{sound}
 use Rattle.rules.specs.Answers.{rowBy, row, answerOf, outcome, step, answers}
 use Rattle.rules.specs.ReadWrite.{readWrite}
-use Rattle.rules.specs.Sessions.{Line, _gives_, sessions}
+use Rattle.rules.specs.Sessions.{Line, _gives_, wholeTrace, sessions}
 use Rattle.rules.proofs.Kept.{empty-sound, step-keeps-sound}
 
 -- the requests of a session, and the answers that it gives them
@@ -47,3 +47,8 @@ rows-hold = refl
 -- the step answers every session as the document does
 pub sessions-hold : map (λ l. answers readWrite empty (requestsOf l)) sessions ≡ map answersOf sessions
 sessions-hold = ap (λ f. map (λ l. f (requestsOf l)) sessions) (fun-ext (answers-rows readWrite empty (empty-sound readWrite))) ∙ rows-hold
+
+-- the whole trace by itself
+pub whole-trace-holds : answers readWrite empty (requestsOf wholeTrace) ≡ answersOf wholeTrace
+unfolding rows requestsOf answersOf wholeTrace all any above isAncestor inFamily nearest heir isAskerOrAncestor heirInLine granted hasRunningChild effect rowBy
+whole-trace-holds = answers-rows readWrite empty (empty-sound readWrite) (requestsOf wholeTrace)

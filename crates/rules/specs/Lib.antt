@@ -12,3 +12,4 @@ pub mod Plain
 pub mod PlainReasons
 pub mod Merging
 pub mod Agrees
+pub mod Moss

@@ -1,6 +1,7 @@
--- The plain machine (document 01, "The plain machine of demand 2"): Moss's rules as a reader knows them, with sets of running owners only. It
--- shares nothing with the bench but the words of the requests: an action here carries the list of its ancestors from the moment it is opened, and
--- nobody walks from parent to parent.
+-- The plain machine (document 01, "The plain machine of demand 2"): Moss's rules as a reader knows them, with sets of running owners only. With the bench
+-- it shares the words of the requests, the table's measures, the tests that compute, and which modes conflict; that reading and writing conflict as document
+-- 01 says is stated by itself (proofs/Grants). Nothing else is shared: an action here carries the list of its ancestors from the moment it is opened, and nobody
+-- walks from parent to parent.
 use mathlib.Core.Bool.{Bool, true, false, not, _&&_, _||_}
 use mathlib.Core.List.{List, [], _∷_}
 use Prim.Native.Nat.{ℕ}

@@ -32,7 +32,7 @@ edgeOfInstruments =
     (openTop 1 gives 0) ∷ (openTop 9 gives 0) ∷ (write 1 127 gives 0) ∷ (write 9 127 gives 6) ∷ (write 9 128 gives 2) ∷ []
 
 -- the whole trace of the section on trace lines
-wholeTrace : List Line
+unfoldable pub wholeTrace : List Line
 wholeTrace =
     (openTop 1 gives 0)
     ∷ (openSub 2 1 gives 0)

@@ -8,9 +8,13 @@ pub mod FrameKinds
 -- The round trips:
 -- Rows: n cells of a kind in a row are taken as the arrays that they were written from, and what is taken writes what stood there.
 -- RoundTrips: a saved bench loads as itself, an accepted text saves as itself, and no text is longer than 5312 bytes.
+-- SaveAndLoad: the round trips of what `save` and `load` return.
+-- Contracts: what `save` and `load` ensure is what those start from.
 -- ShapeCases: each clause of document 01's sentence on shapes, computed on short texts.
 pub mod Rows
 pub mod RoundTrips
+pub mod SaveAndLoad
+pub mod Contracts
 pub mod ShapeCases
 -- The writer:
 -- WrittenDigits: a number written digit by digit.

@@ -2,6 +2,7 @@
 use mathlib.Core.Bool.{Bool}
 use mathlib.Core.List.{List, _++_}
 use mathlib.Core.Option.{Option, none, some}
+use mathlib.Core.Path.{_≡_}
 use Prim.Native.Nat.{ℕ}
 use lib.Dec.{ltb}
 use lib.ListN.{length, drop, replicate}
@@ -50,3 +51,11 @@ loadedFrom (some b) = ifSound b
 -- Load: 8 for the whole text where it is not well-shaped, then 7; refused gives an empty bench.
 unfoldable pub loadOf : List ℕ → Loaded
 loadOf text = loadedFrom (recordIn text)
+
+-- r is what `save` returns on bench b and a buffer that held `out`, and `after` is what the buffer then holds.
+abbrev pub Saves : Bench → List ℕ → Saved → List ℕ → Type 0
+Saves b out r after = (r ≡ savedAs b (length out)) × (after ≡ bufferAfter b out)
+
+-- r is what `load` returns on a text.
+abbrev pub Loads : List ℕ → Loaded → Type 0
+Loads text r = r ≡ loadOf text

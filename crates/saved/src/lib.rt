@@ -6,8 +6,7 @@ use bench::Bench;
 use bench::answers::ACCEPTED;
 use bench::answers::UNSOUND;
 ghost use mathlib.Core.Path.{_≡_};
-ghost use lib.ListN.{length};
-ghost use Rattle.saved.specs.Saved.{savedAs, sizedAs, bufferAfter, emptyRecord, ifSound, loadOf};
+ghost use Rattle.saved.specs.Saved.{Saves, sizedAs, emptyRecord, ifSound, Loads};
 
 // Load: the text is not well-shaped.
 pub const MALFORMED: u8 = 8;
@@ -46,7 +45,7 @@ pub fn text_size(b: Bench) -> Saved
 
 // Writes the text of a bench at the buffer's start. Refused, it writes nothing.
 pub fn save(b: Bench, out: &mut [u8]) -> Saved
-    ensures { λ r. ⌜ (r ≡ savedAs b (length (now (out .entry)))) × (now (out .exit) ≡ bufferAfter b (now (out .entry))) ⌝ }
+    ensures { λ r. ⌜ Saves b (now (out .entry)) r (now (out .exit)) ⌝ }
 {
     if !b.is_sound() {
         return Saved {
@@ -100,7 +99,7 @@ fn checked(bench: Bench) -> Loaded
 
 // The bench that a text says: 8 where it isn't well-shaped, then 7 where the bench isn't sound.
 pub fn load(text: &[u8]) -> Loaded
-    ensures { λ r. ⌜ r ≡ loadOf (now (text .entry)) ⌝ }
+    ensures { λ r. ⌜ Loads (now (text .entry)) r ⌝ }
 {
     let mut parents = [0u8; 64];
     let mut states = [0u8; 64];

@@ -1,0 +1,61 @@
+-- What a caller learns from each method's contract, as the language reads the contract, is the definition that `Plays`, `Feeds` and the demands start from. A contract
+-- that says less is refused here, whatever its method is proved to do. Assumes nothing.
+use denote.Ref.{now}
+use Prim.Native.Nat.{ℕ}
+use Rattle.rules.specs.Requests.{openTop, openSub, commit, abort}
+use Rattle.rules.specs.ReadWrite.{read, write}
+use Rattle.bench.specs.declared.Bench.{Bench}
+use Rattle.bench.specs.declared.Reply.{Reply}
+use Rattle.bench.specs.declared.Fed.{Fed}
+use Rattle.bench.specs.Plays.{IsEmpty, Returns}
+use Rattle.bench.specs.Feeding.{FedAs, ExplainedAs}
+use Rattle.bench.specs.Finishing.{FinishedAs, FinishedExplainingAs}
+use Rattle.bench.proofs.Bench.empty.Reads as of-empty
+use Rattle.bench.proofs.Bench.open_top.Reads as of-open-top
+use Rattle.bench.proofs.Bench.open_sub.Reads as of-open-sub
+use Rattle.bench.proofs.Bench.read.Reads as of-read
+use Rattle.bench.proofs.Bench.write.Reads as of-write
+use Rattle.bench.proofs.Bench.commit.Reads as of-commit
+use Rattle.bench.proofs.Bench.abort.Reads as of-abort
+use Rattle.bench.proofs.Player.feed.Reads as of-feed
+use Rattle.bench.proofs.Player.explain.Reads as of-explain
+use Rattle.bench.proofs.Player.finish.Reads as of-finish
+use Rattle.bench.proofs.Player.finish_explaining.Reads as of-finish-explaining
+
+pub empty-ensures : (r : Bench) → of-empty.Learnt tt tt r tt → IsEmpty r
+empty-ensures r learnt = learnt
+
+-- Each takes the record and its numbers, which are the same at the end of the call.
+module _ (b : Bench) (r : Reply) where
+  pub open-top-ensures : (n : ℕ) → of-open-top.Learnt tt (b, (n, tt)) r (b, (n, tt)) → Returns b (openTop n) r
+  open-top-ensures n learnt = learnt
+
+  pub open-sub-ensures : (n p : ℕ) → of-open-sub.Learnt tt (b, (n, (p, tt))) r (b, (n, (p, tt))) → Returns b (openSub n p) r
+  open-sub-ensures n p learnt = learnt
+
+  pub read-ensures : (a i : ℕ) → of-read.Learnt tt (b, (a, (i, tt))) r (b, (a, (i, tt))) → Returns b (read a i) r
+  read-ensures a i learnt = learnt
+
+  pub write-ensures : (a i : ℕ) → of-write.Learnt tt (b, (a, (i, tt))) r (b, (a, (i, tt))) → Returns b (write a i) r
+  write-ensures a i learnt = learnt
+
+  pub commit-ensures : (a : ℕ) → of-commit.Learnt tt (b, (a, tt)) r (b, (a, tt)) → Returns b (commit a) r
+  commit-ensures a learnt = learnt
+
+  pub abort-ensures : (a : ℕ) → of-abort.Learnt tt (b, (a, tt)) r (b, (a, tt)) → Returns b (abort a) r
+  abort-ensures a learnt = learnt
+
+-- ---- the player
+
+-- It takes the player, the input where there is one, and the buffer, which is another after the call.
+pub feed-ensures : (κs : _) (lent : _) (r : Fed) (after : _) → of-feed.Learnt κs lent r after → FedAs (lent .0) (now (lent .1 .0)) (now (lent .1 .1 .0)) r (now (after .1 .1 .0))
+feed-ensures κs lent r after learnt = learnt
+
+pub explain-ensures : (κs : _) (lent : _) (r : Fed) (after : _) → of-explain.Learnt κs lent r after → ExplainedAs (lent .0) (now (lent .1 .0)) (now (lent .1 .1 .0)) r (now (after .1 .1 .0))
+explain-ensures κs lent r after learnt = learnt
+
+pub finish-ensures : (κs : _) (lent : _) (r : Fed) (after : _) → of-finish.Learnt κs lent r after → FinishedAs (lent .0) (now (lent .1 .0)) r (now (after .1 .0))
+finish-ensures κs lent r after learnt = learnt
+
+pub finish-explaining-ensures : (κs : _) (lent : _) (r : Fed) (after : _) → of-finish-explaining.Learnt κs lent r after → FinishedExplainingAs (lent .0) (now (lent .1 .0)) r (now (after .1 .0))
+finish-explaining-ensures κs lent r after learnt = learnt

@@ -1,0 +1,2 @@
+pub mod Moss
+pub mod Through
