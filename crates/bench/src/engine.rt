@@ -1,4 +1,5 @@
 // Requests on four arrays in place, for a bench that is known to be sound: the trace player's steps. No array is copied.
+use crate::Bench;
 use crate::answers::ACCEPTED;
 use crate::answers::MALFORMED;
 use crate::answers::abort_row;
@@ -37,7 +38,7 @@ fn open_top(
 {
     let answer = open_top_row(states, n);
     if answer == ACCEPTED {
-        states[(n % 64) as usize] = RUNNING;
+        states[(n % Bench::ACTIONS) as usize] = RUNNING;
     }
     answer
 }
@@ -55,8 +56,8 @@ fn open_sub(
 {
     let answer = open_sub_row(states, n, p);
     if answer == ACCEPTED {
-        states[(n % 64) as usize] = RUNNING;
-        parents[(n % 64) as usize] = (p % 64) as u8 + 1;
+        states[(n % Bench::ACTIONS) as usize] = RUNNING;
+        parents[(n % Bench::ACTIONS) as usize] = (p % Bench::ACTIONS) as u8 + 1;
     }
     answer
 }
@@ -119,13 +120,13 @@ pub(crate) fn ask(
     requires { ⌜ SoundArrays (now parents) (now states) (now reads) (now writes) × KnowsChild (now parents) (now states) a «busy» × KnowsLine (now parents) (now states) a line ⌝ }
     ensures { λ r. ⌜ Stepped (some (ask (modeOf «is_write») a i)) (now (parents .entry)) (now (states .entry)) (now (reads .entry)) (now (writes .entry)) r (now (parents .exit)) (now (states .exit)) (now (reads .exit)) (now (writes .exit)) ⌝ }
 {
-    let at = (i % 128) as usize;
+    let at = (i % Bench::INSTRUMENTS) as usize;
     let readers = reads[at];
     let writers = writes[at];
     let owners = conflicting(readers, writers, is_write);
     let answer = ask_row(parents, states, busy, line, owners, a, i);
     if answer == ACCEPTED {
-        let k = (a % 64) as usize;
+        let k = (a % Bench::ACTIONS) as usize;
         reads[at] = entered(readers, k, !is_write);
         writes[at] = entered(writers, k, is_write);
     }
@@ -167,7 +168,7 @@ fn commit(
     if answer != ACCEPTED {
         return answer;
     }
-    let at = (a % 64) as usize;
+    let at = (a % Bench::ACTIONS) as usize;
     if parents[at] == 0 {
         free_family(parents, states, reads, writes, gone, at);
         return answer;
@@ -190,7 +191,14 @@ fn abort(
 {
     let answer = abort_row(states, a);
     if answer == ACCEPTED {
-        free_family(parents, states, reads, writes, gone, (a % 64) as usize);
+        free_family(
+            parents,
+            states,
+            reads,
+            writes,
+            gone,
+            (a % Bench::ACTIONS) as usize,
+        );
     }
     answer
 }
@@ -200,7 +208,7 @@ pub(crate) fn frees(parents: &[u8; 64], code: u8, x: u32) -> bool
     requires { ⌜ length (now parents) ≡ 64 ⌝ }
     ensures { λ r. ⌜ r ≡ freesBy code (getD (now (parents .entry)) (x % 64) 0) ⌝ }
 {
-    (code == 6) | (parents[(x % 64) as usize] == 0)
+    (code == 6) | (parents[(x % Bench::ACTIONS) as usize] == 0)
 }
 
 // Commit or abort, by the frame's code, where `gone` is the family if one is to be freed; a code above 6 is malformed.
@@ -233,7 +241,7 @@ fn freed(parents: &[u8; 64], code: u8, x: u32) -> u64
     ensures { λ r. ⌜ (freesBy code (getD (now (parents .entry)) (x % 64) 0) ≡ true → (k : ℕ) → member r k ≡ descends (now (parents .entry)) (x % 64) k) ⌝ }
 {
     if frees(parents, code, x) {
-        return family(parents, (x % 64) as usize);
+        return family(parents, (x % Bench::ACTIONS) as usize);
     }
     0
 }
@@ -254,7 +262,7 @@ pub(crate) fn request(
     if code < 3 {
         return open(parents, states, reads, writes, code, x, y);
     }
-    let busy = running_child(parents, states, (x % 64) as u8 + 1);
+    let busy = running_child(parents, states, (x % Bench::ACTIONS) as u8 + 1);
     if code < 5 {
         return ask(parents, states, reads, writes, busy, 0, code == 4, x, y);
     }

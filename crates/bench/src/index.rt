@@ -1,5 +1,6 @@
 // What the player keeps beside the four arrays, so that no line looks through them: the children of each number, each number with its ancestors, and the running
 // numbers, all as sets.
+use crate::Bench;
 use crate::answers::ACCEPTED;
 use crate::engine::ask;
 use crate::engine::end;
@@ -93,7 +94,7 @@ fn freed_in<'a>(
     ensures { λ r. ⌜ FreedIn (now (parents .entry)) (now (states .entry)) code x r ⌝ }
 {
     if frees(parents, code, x) {
-        return family_in(parents, states, children, (x % 64) as usize);
+        return family_in(parents, states, children, (x % Bench::ACTIONS) as usize);
     }
     0
 }
@@ -118,14 +119,14 @@ fn open_indexed(
     if answer != ACCEPTED {
         return answer;
     }
-    let n = (x % 64) as usize;
+    let n = (x % Bench::ACTIONS) as usize;
     *running = sets::with(*running, n);
     children[n] = 0;
     if code == 1 {
         lines[n] = sets::with(0, n);
         return answer;
     }
-    let p = (y % 64) as usize;
+    let p = (y % Bench::ACTIONS) as usize;
     children[p] = sets::with(children[p], n);
     lines[n] = sets::with(lines[p], n);
     answer
@@ -148,7 +149,7 @@ fn end_indexed(
     requires { ⌜ SoundArrays (now parents) (now states) (now reads) (now writes) × (4 < code) × KnowsChild (now parents) (now states) x «busy» × Indexed (tree (now parents) (now states)) (now children) (now lines) (now running) ⌝ }
     ensures { λ r. ⌜ Stepped (framed code x y) (now (parents .entry)) (now (states .entry)) (now (reads .entry)) (now (writes .entry)) r (now (parents .exit)) (now (states .exit)) (now (reads .exit)) (now (writes .exit)) × Indexed (tree (now (parents .exit)) (now (states .exit))) (now (children .exit)) (now (lines .exit)) (now (running .exit)) ⌝ }
 {
-    let a = (x % 64) as usize;
+    let a = (x % Bench::ACTIONS) as usize;
     let up = wide(parents[a]);
     let gone = freed_in(parents, states, children, code, x);
     let answer = end(parents, states, reads, writes, busy, gone, code, x, y);
@@ -179,7 +180,7 @@ pub(crate) fn request(
     requires { ⌜ SoundArrays (now parents) (now states) (now reads) (now writes) × Indexed (tree (now parents) (now states)) (now children) (now lines) (now running) ⌝ }
     ensures { λ r. ⌜ Stepped (framed code x y) (now (parents .entry)) (now (states .entry)) (now (reads .entry)) (now (writes .entry)) r (now (parents .exit)) (now (states .exit)) (now (reads .exit)) (now (writes .exit)) × Indexed (tree (now (parents .exit)) (now (states .exit))) (now (children .exit)) (now (lines .exit)) (now (running .exit)) ⌝ }
 {
-    let a = (x % 64) as usize;
+    let a = (x % Bench::ACTIONS) as usize;
     let busy = sets::meet(children[a], *running);
     if (code == 3) | (code == 4) {
         return ask(

@@ -1,4 +1,5 @@
 // What is written for a line that has ended.
+use crate::Bench;
 use naming::named;
 use naming::text::Text;
 use naming::text::text_of;
@@ -52,7 +53,7 @@ pub(crate) fn put_line<'a>(
     ensures { λ r. ⌜ PutAs (if «telling» then reasonText (namedIn (now (parents .entry)) (now (states .entry)) (getD (now (reads .entry)) (y % 128) 0) (getD (now (writes .entry)) (y % 128) 0) code x y answer) else answerText answer) (now (out .entry)) at (now (out .exit)) r ⌝ }
 {
     if telling {
-        let i = (y % 128) as usize;
+        let i = (y % Bench::INSTRUMENTS) as usize;
         let text = text_of(named(parents, states, reads[i], writes[i], code, x, y, answer));
         let size = text.size;
         put_text(out, at, text);
