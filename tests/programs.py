@@ -1,7 +1,12 @@
 """Runs a built program on some input, whole or in pieces, and gives what it writes."""
 
+import fcntl
 import os
+import struct
 import tempfile
+
+# A library that stops a program before its first instruction and lets copies of it go on, where that is much quicker than a new start (tests/forks.c).
+FORKS = os.environ.get("DIKOTHELM_FORKS")
 
 
 class Program:
@@ -11,16 +16,19 @@ class Program:
         self.path = path
         self.input = tempfile.TemporaryFile()
         self.output = tempfile.TemporaryFile()
+        self.stopped = Stopped(path, self.input.fileno(), self.output.fileno()) if FORKS else None
 
-    def start(self, source):
+    def clear_output(self):
         self.output.seek(0)
         self.output.truncate()
+
+    def start(self, source):
+        self.clear_output()
         streams = [(os.POSIX_SPAWN_DUP2, source, 0), (os.POSIX_SPAWN_DUP2, self.output.fileno(), 1)]
         return os.posix_spawn(self.path, [self.path], os.environ, file_actions=streams)
 
-    def written(self, started):
-        """What was written by the end of a run that has to end well."""
-        _, status = os.waitpid(started, 0)
+    def written(self, status):
+        """What was written by a run that has to end well."""
         if status != 0:
             raise RuntimeError("%s ended with status %d" % (self.path, status))
         self.output.seek(0)
@@ -32,7 +40,10 @@ class Program:
         self.input.truncate()
         self.input.write(data)
         self.input.seek(0)
-        return self.written(self.start(self.input.fileno()))
+        if self.stopped:
+            self.clear_output()
+            return self.written(self.stopped.run())
+        return self.written(ended(self.start(self.input.fileno())))
 
     def on_pieces(self, pieces):
         """The output for some bytes that come in pieces: a read gets one piece and never more. No piece is empty or has more than 4,096 bytes."""
@@ -45,7 +56,31 @@ class Program:
         except BrokenPipeError:
             pass
         os.close(sink)
-        return self.written(started)
+        return self.written(ended(started))
+
+
+class Stopped:
+    """A process of a program that has been loaded and has not begun; each run is that of a copy of it."""
+
+    def __init__(self, path, source, target):
+        theirs, self.ask = os.pipe()
+        self.status, status = os.pipe()
+        # Descriptors far from the wanted ones, so that putting one in its place overwrites no other.
+        wanted = [(fcntl.fcntl(fd, fcntl.F_DUPFD_CLOEXEC, 20), to) for fd, to in ((source, 0), (target, 1), (theirs, 4), (status, 5))]
+        streams = [(os.POSIX_SPAWN_DUP2, fd, to) for fd, to in wanted]
+        os.posix_spawn(path, [path], dict(os.environ, LD_PRELOAD=FORKS), file_actions=streams)
+        for fd in [theirs, status] + [fd for fd, _ in wanted]:
+            os.close(fd)
+
+    def run(self):
+        """The status of a run."""
+        os.write(self.ask, b"x")
+        return struct.unpack("i", os.read(self.status, 4))[0]
+
+
+def ended(process):
+    """The status that a process ends with."""
+    return os.waitpid(process, 0)[1]
 
 
 def cut(data, size):

@@ -108,7 +108,7 @@ impl Error for Refusal {}
 
 impl From<Refusal> for io::Error {
     fn from(refusal: Refusal) -> io::Error {
-        io::Error::other(refusal)
+        io::Error::new(io::ErrorKind::Other, refusal)
     }
 }
 

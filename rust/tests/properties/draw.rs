@@ -1,7 +1,21 @@
 //! Numbers drawn from a seed (splitmix64), and what the tests draw with them.
 
+use std::env;
+use std::iter::StepBy;
+use std::ops::Range;
+
 use crate::plain::{Plain, Request};
 use crate::record::Record;
+
+/// Of how many seeds one is taken: DIKOTHELM_SEEDS, for slow machines, else 1. A number that 2, 3 and 5 don't divide leaves some of each kind.
+pub fn one_seed_of() -> u32 {
+    env::var("DIKOTHELM_SEEDS").map_or(1, |many| many.parse().expect("DIKOTHELM_SEEDS is no number"))
+}
+
+/// Those of a test's seeds that are taken.
+pub fn seeds(all: Range<u64>) -> StepBy<Range<u64>> {
+    all.step_by(one_seed_of() as usize)
+}
 
 pub struct Draw(u64);
 

@@ -79,13 +79,14 @@ fn assert_as_the_model(draw: &mut Draw, record: &Record, at: &dyn Fn() -> String
 #[test]
 fn images_of_anything() {
     let mut sound = [0; 3];
-    for seed in 50_000..80_000 {
+    for seed in draw::seeds(50_000..80_000) {
         let mut draw = Draw::new(seed);
         let kind = (seed % 3) as usize;
         let record = [random_bytes, few_numbers, changed_forest][kind](&mut draw);
-        sound[kind] += i32::from(assert_as_the_model(&mut draw, &record, &|| format!("seed {seed}")));
+        sound[kind] += u32::from(assert_as_the_model(&mut draw, &record, &|| format!("seed {seed}")));
     }
-    assert!(sound[0] == 0 && (500..9_500).contains(&sound[1]) && (500..9_500).contains(&sound[2]), "{sound:?}");
+    let often = 500 / draw::one_seed_of()..9_500 / draw::one_seed_of();
+    assert!(sound[0] == 0 && often.contains(&sound[1]) && often.contains(&sound[2]), "{sound:?}");
 }
 
 /// Chains of every length in every order of numbers, and the ring that the longest one closes.

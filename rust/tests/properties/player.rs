@@ -99,7 +99,7 @@ fn cut<'a>(draw: &mut Draw, input: &'a [u8], longest: usize) -> Vec<&'a [u8]> {
 
 #[test]
 fn traces_cut_anywhere() {
-    for seed in 40_000..40_200 {
+    for seed in draw::seeds(40_000..40_200) {
         let mut draw = Draw::new(seed);
         let malformed = draw.of(&[2, 10, 50]);
         let (input, expected, plain) = trace(&mut draw, &MIXES[seed as usize % MIXES.len()], 600, malformed);
@@ -127,7 +127,7 @@ fn traces_cut_anywhere() {
 
 #[test]
 fn small_buffers() {
-    for seed in 41_000..41_200 {
+    for seed in draw::seeds(41_000..41_200) {
         let mut draw = Draw::new(seed);
         let (input, expected, _) = trace(&mut draw, &MIXES[seed as usize % MIXES.len()], 100, 10);
         let (mut actions, mut owners, mut progress, mut answers) = ([0; 128], [0; 256], [0; 4], Vec::<u8>::new());
