@@ -1,9 +1,4 @@
-// Drawn numbers: each follows from the one before, and all stay below 2,147,483,647.
-
-// The number after x.
-pub(crate) fn following(x: u64) -> u64 {
-    x % 2147483647 * 48271 % 2147483647
-}
+// What a drawn number gives.
 
 // A word of a drawn number.
 pub(crate) fn word(x: u64) -> u64 {

@@ -5,6 +5,10 @@ mod records;
 mod requests;
 
 use bench::Bench;
+use trials::requests::asked;
+use trials::show;
+use trials::sums::folded;
+use trials::sums::folded_record;
 
 // Where the requests stand: the record that the last one left, the last drawn number, how often each answer was given, and the sum.
 struct Run {
@@ -14,49 +18,16 @@ struct Run {
     sum: u64,
 }
 
-fn wide(x: u8) -> u64 {
-    x as u64
-}
-
-// The sum with a further value below 4,294,967,296.
-fn folded(sum: u64, value: u64) -> u64 {
-    (sum % 4294967291 * 31 + value % 4294967296) % 4294967291
-}
-
-// The sum with a word, its lower half first.
-fn folded_word(sum: u64, word: u64) -> u64 {
-    folded(folded(sum, word % 4294967296), word / 4294967296)
-}
-
-// The sum with a whole record: parents and states number by number, then the sets instrument by instrument.
-fn folded_record(start: u64, b: Bench) -> u64 {
-    let mut sum = start;
-    for n in 0..64usize {
-        sum = folded(sum, wide(b.parents[n]));
-        sum = folded(sum, wide(b.states[n]));
-    }
-    for i in 0..128usize {
-        sum = folded_word(sum, b.reads[i]);
-        sum = folded_word(sum, b.writes[i]);
-    }
-    sum
-}
-
 // The sum with what one request handed back: the answer, whether the record is sound, and the record.
 fn folded_reply(start: u64, answer: u8, b: Bench) -> u64 {
-    let mut sum = folded(start, wide(answer));
-    if b.is_sound() {
-        sum = folded(sum, 1);
-    } else {
-        sum = folded(sum, 0);
-    }
-    folded_record(sum, b)
+    let sum = folded(folded(start, answer as u64), b.is_sound() as u64);
+    folded_record(sum, false, b)
 }
 
 // One more of this answer.
 fn counted(mut counts: [u64; 8], answer: u8) -> [u64; 8] {
     if answer < 8 {
-        let at = wide(answer) as usize;
+        let at = answer as usize;
         counts[at % 8] = std::num::wrapping_add_u64(counts[at % 8], 1);
     }
     counts
@@ -83,7 +54,7 @@ fn step(run: Run, kind: u64, turn: u64) -> Run {
         x = made.x;
     }
     let q = requests::drawn(b, kind, x);
-    let reply = requests::asked(b, q);
+    let reply = asked(b, q.code, q.first, q.second);
     let left = reply.bench;
     let before = run.counts;
     let counts = counted(before, reply.answer);
@@ -96,15 +67,12 @@ fn step(run: Run, kind: u64, turn: u64) -> Run {
 }
 
 // Writes the line of 1,000 requests.
-fn show(kind: u64, counts: [u64; 8], sum: u64) {
+fn line(kind: u64, counts: [u64; 8], sum: u64) {
     io::print_decimal(1, kind);
     for k in 0..8usize {
-        io::write_all(1, b" ");
-        io::print_decimal(1, counts[k]);
+        show::count(counts[k]);
     }
-    io::write_all(1, b" ");
-    io::print_hex(1, sum, 8);
-    io::write_all(1, b"\n");
+    show::last_sum(sum);
 }
 
 // 1,000 requests and their line.
@@ -119,7 +87,7 @@ fn block(kind: u64, x: u64, sum: u64) -> Run {
         run = step(run, kind, turn);
     }
     let counts = run.counts;
-    show(kind, counts, run.sum);
+    line(kind, counts, run.sum);
     run
 }
 

@@ -1,7 +1,7 @@
 // The records that requests are tried on: of random bytes, nearly sound, sound, and sound but for one change.
-use crate::draw::following;
 use crate::draw::word;
 use bench::Bench;
+use trials::draw::following;
 
 // A record, and the drawn number that was the last to go into it.
 pub(crate) struct Made {

@@ -1,8 +1,7 @@
 // Drawn requests.
 use crate::draw::far;
-use crate::draw::following;
 use bench::Bench;
-use bench::Reply;
+use trials::draw::following;
 
 // A request by its trace code, its two numbers, of which the second may have no meaning, and the drawn number that was the last to go into it.
 pub(crate) struct Request {
@@ -114,24 +113,4 @@ pub(crate) fn drawn(b: Bench, kind: u64, x: u64) -> Request {
         second: second,
         x: chance,
     }
-}
-
-// What the bench makes of it.
-pub(crate) fn asked(b: Bench, q: Request) -> Reply {
-    if q.code == 1 {
-        return b.open_top(q.first);
-    }
-    if q.code == 2 {
-        return b.open_sub(q.first, q.second);
-    }
-    if q.code == 3 {
-        return b.read(q.first, q.second);
-    }
-    if q.code == 4 {
-        return b.write(q.first, q.second);
-    }
-    if q.code == 5 {
-        return b.commit(q.first);
-    }
-    b.abort(q.first)
 }

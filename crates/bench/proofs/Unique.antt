@@ -15,9 +15,9 @@ use Rattle.rules.specs.Bench.{State, free, running, committed, meaningless}
 use Rattle.rules.specs.Requests.{Request}
 use Rattle.rules.specs.Answers.{Outcome, answerOf, step}
 use Rattle.rules.specs.ReadWrite.{readWrite}
+use Rattle.views.specs.View.{stateOf, parentOf}
 use Rattle.bench.specs.declared.Bench.{Bench}
 use Rattle.bench.specs.declared.Reply.{Reply}
-use Rattle.views.specs.View.{stateOf, parentOf}
 use Rattle.bench.specs.Record.{viewed, seen}
 use Rattle.bench.specs.Plays.{IsEmpty, Returns}
 

@@ -2,9 +2,9 @@
 -- records of these arrays' lengths that are read as the same bench are the same record.
 use Rattle.rules.specs.Bench as rules
 use Rattle.rules.specs.Answers.{Outcome}
+use Rattle.views.specs.View.{view}
 use Rattle.bench.specs.declared.Bench.{Bench}
 use Rattle.bench.specs.declared.Reply.{Reply}
-use Rattle.views.specs.View.{view}
 
 -- A record, read as a bench.
 abbrev pub viewed : Bench → rules.Bench

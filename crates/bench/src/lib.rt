@@ -1,30 +1,23 @@
 // The bench: 64 action numbers, 128 instruments, six requests by Moss's rules.
 pub mod answers;
-mod clear;
-mod ends;
-mod engine;
-mod finish;
-pub mod image;
-mod index;
-mod play;
-mod put;
-mod tree;
 
-use answers::ACCEPTED;
-use soundness::index::COMMITTED;
-use soundness::index::RUNNING;
+use answers::abort_answer;
+use answers::ask_answer;
+use answers::commit_answer;
+use answers::open_sub_answer;
+use answers::open_top_answer;
+use marks::answers::ACCEPTED;
+use marks::states::COMMITTED;
+use marks::states::RUNNING;
 ghost use mathlib.Core.Path.{_≡_};
 ghost use mathlib.Core.Bool.{true};
 ghost use Prim.Native.Nat.{_<_};
-ghost use Rattle.rules.specs.Bench.{empty};
 ghost use Rattle.rules.specs.Owners.{inFamily};
 ghost use Rattle.rules.specs.Sound.{sound};
 ghost use Rattle.rules.specs.Requests.{openTop, openSub, commit, abort, without};
 ghost use Rattle.rules.specs.ReadWrite.{readWrite, read, write};
 ghost use Rattle.bench.specs.Record.{viewed};
 ghost use Rattle.bench.specs.Plays.{IsEmpty, Returns};
-ghost use Rattle.lines.specs.Feeding.{between};
-ghost use Rattle.bench.specs.Feeding.{feeding};
 
 // Parents and states over 64 numbers, read and write sets over 128 instruments. A parent's byte is 0 for none and else one more than the parent's
 // number; a state's byte is 0 free, 1 running, 2 committed; a set's bit k is number k.
@@ -39,21 +32,6 @@ pub struct Bench {
 pub struct Reply {
     pub bench: Bench,
     pub answer: u8,
-}
-
-// A trace player: a bench, and what is known of the line that has begun, `count` digits that write `value`; a count of 7 where no request can come of
-// it any more.
-pub struct Player {
-    pub bench: Bench,
-    pub count: u8,
-    pub value: u32,
-}
-
-// What feeding hands back: the player, how many bytes of the input were taken and how many were written.
-pub struct Fed {
-    pub player: Player,
-    pub used: usize,
-    pub written: usize,
 }
 
 impl Bench {
@@ -78,20 +56,14 @@ impl Bench {
     pub fn is_sound(self) -> bool
         ensures { λ r. ⌜ r ≡ sound readWrite (viewed self) ⌝ }
     {
-        soundness::sound(&self.parents, &self.states, &self.reads, &self.writes)
+        answers::sound(&self.parents, &self.states, &self.reads, &self.writes)
     }
 
     // Makes n a running top action.
     pub fn open_top(mut self, n: u32) -> Reply
         ensures { λ r. ⌜ Returns self (openTop n) r ⌝ }
     {
-        let answer = answers::open_top_answer(
-            &self.parents,
-            &self.states,
-            &self.reads,
-            &self.writes,
-            n,
-        );
+        let answer = open_top_answer(&self.parents, &self.states, &self.reads, &self.writes, n);
         if answer == ACCEPTED {
             let at = (n % Bench::ACTIONS) as usize;
             self.states[at] = RUNNING;
@@ -106,14 +78,7 @@ impl Bench {
     pub fn open_sub(mut self, n: u32, p: u32) -> Reply
         ensures { λ r. ⌜ Returns self (openSub n p) r ⌝ }
     {
-        let answer = answers::open_sub_answer(
-            &self.parents,
-            &self.states,
-            &self.reads,
-            &self.writes,
-            n,
-            p,
-        );
+        let answer = open_sub_answer(&self.parents, &self.states, &self.reads, &self.writes, n, p);
         if answer == ACCEPTED {
             let at = (n % Bench::ACTIONS) as usize;
             self.states[at] = RUNNING;
@@ -129,11 +94,12 @@ impl Bench {
     pub fn read(mut self, a: u32, i: u32) -> Reply
         ensures { λ r. ⌜ Returns self (read a i) r ⌝ }
     {
-        let answer = answers::read_answer(
+        let answer = ask_answer(
             &self.parents,
             &self.states,
             &self.reads,
             &self.writes,
+            false,
             a,
             i,
         );
@@ -151,11 +117,12 @@ impl Bench {
     pub fn write(mut self, a: u32, i: u32) -> Reply
         ensures { λ r. ⌜ Returns self (write a i) r ⌝ }
     {
-        let answer = answers::write_answer(
+        let answer = ask_answer(
             &self.parents,
             &self.states,
             &self.reads,
             &self.writes,
+            true,
             a,
             i,
         );
@@ -174,11 +141,11 @@ impl Bench {
         requires { ⌜ (sound readWrite (viewed self) ≡ true) × (a < 64) ⌝ }
         ensures { λ r. ⌜ viewed r ≡ without (inFamily readWrite (viewed self) a) (viewed self) ⌝ }
     {
-        let gone = tree::family(&self.parents, a);
-        clear::clear_bytes(&mut self.parents, gone);
-        clear::clear_bytes(&mut self.states, gone);
-        clear::clear_sets(&mut self.reads, gone);
-        clear::clear_sets(&mut self.writes, gone);
+        let gone = tree::family::family_of(&self.parents, a);
+        steps::clear::clear_bytes(&mut self.parents, gone);
+        steps::clear::clear_bytes(&mut self.states, gone);
+        steps::clear::clear_sets(&mut self.reads, gone);
+        steps::clear::clear_sets(&mut self.writes, gone);
         self
     }
 
@@ -186,13 +153,7 @@ impl Bench {
     pub fn commit(mut self, a: u32) -> Reply
         ensures { λ r. ⌜ Returns self (commit a) r ⌝ }
     {
-        let answer = answers::commit_answer(
-            &self.parents,
-            &self.states,
-            &self.reads,
-            &self.writes,
-            a,
-        );
+        let answer = commit_answer(&self.parents, &self.states, &self.reads, &self.writes, a);
         if answer != ACCEPTED {
             return Reply {
                 bench: self,
@@ -218,36 +179,17 @@ impl Bench {
     pub fn abort(mut self, a: u32) -> Reply
         ensures { λ r. ⌜ Returns self (abort a) r ⌝ }
     {
-        let answer = answers::abort_answer(
-            &self.parents,
-            &self.states,
-            &self.reads,
-            &self.writes,
-            a,
-        );
+        let answer = abort_answer(&self.parents, &self.states, &self.reads, &self.writes, a);
         if answer == ACCEPTED {
-            let freed = tree::family(&self.parents, (a % Bench::ACTIONS) as usize);
-            clear::clear_bytes(&mut self.parents, freed);
-            clear::clear_bytes(&mut self.states, freed);
-            clear::clear_sets(&mut self.reads, freed);
-            clear::clear_sets(&mut self.writes, freed);
+            let freed = tree::family::family_of(&self.parents, (a % Bench::ACTIONS) as usize);
+            steps::clear::clear_bytes(&mut self.parents, freed);
+            steps::clear::clear_bytes(&mut self.states, freed);
+            steps::clear::clear_sets(&mut self.reads, freed);
+            steps::clear::clear_sets(&mut self.writes, freed);
         }
         Reply {
             bench: self,
             answer: answer,
-        }
-    }
-}
-
-impl Player {
-    // A player on an empty bench, before any line.
-    pub fn new() -> Player
-        ensures { λ r. ⌜ feeding r ≡ between empty ⌝ }
-    {
-        Player {
-            bench: Bench::empty(),
-            count: 0,
-            value: 0,
         }
     }
 }

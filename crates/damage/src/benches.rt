@@ -1,43 +1,39 @@
 // The benches whose texts are saved and damaged, each reached by requests.
-use crate::draw::following;
 use bench::Bench;
-use bench::Reply;
-
-fn after(r: Reply) -> Bench {
-    r.bench
-}
+use trials::draw::following;
+use trials::requests::asked;
 
 // The last number as a top action.
 pub(crate) fn one_top() -> Bench {
-    after(Bench::empty().open_top(63))
+    Bench::empty().open_top(63).bench
 }
 
 // Document 01's trace after its line 7: 2, committed under 1, wrote instrument 5, and 3 under 1 reads it.
 pub(crate) fn middle_of_the_trace() -> Bench {
-    let b = after(Bench::empty().open_top(1));
-    let b = after(b.open_sub(2, 1));
-    let b = after(b.open_sub(3, 1));
-    let b = after(b.write(2, 5));
-    let b = after(b.commit(2));
-    after(b.read(3, 5))
+    let b = Bench::empty().open_top(1).bench;
+    let b = b.open_sub(2, 1).bench;
+    let b = b.open_sub(3, 1).bench;
+    let b = b.write(2, 5).bench;
+    let b = b.commit(2).bench;
+    b.read(3, 5).bench
 }
 
 // The first and the last number, their locks on the first and the last instrument, and a number under each of them.
 pub(crate) fn both_ends() -> Bench {
-    let b = after(Bench::empty().open_top(0));
-    let b = after(b.write(0, 0));
-    let b = after(b.open_top(63));
-    let b = after(b.read(63, 127));
-    let b = after(b.write(63, 127));
-    let b = after(b.open_sub(1, 0));
-    after(b.open_sub(62, 63))
+    let b = Bench::empty().open_top(0).bench;
+    let b = b.write(0, 0).bench;
+    let b = b.open_top(63).bench;
+    let b = b.read(63, 127).bench;
+    let b = b.write(63, 127).bench;
+    let b = b.open_sub(1, 0).bench;
+    b.open_sub(62, 63).bench
 }
 
 // All 64 numbers: 0 a top, and each other one, k + 1, under k / 2.
 fn all_numbers() -> Bench {
-    let mut b = after(Bench::empty().open_top(0));
+    let mut b = Bench::empty().open_top(0).bench;
     for k in 0..63u32 {
-        b = after(b.open_sub(k + 1, k / 2));
+        b = b.open_sub(k + 1, k / 2).bench;
     }
     b
 }
@@ -47,14 +43,14 @@ fn all_numbers() -> Bench {
 pub(crate) fn full() -> Bench {
     let mut b = all_numbers();
     for i in 0..128u32 {
-        b = after(b.read(i % 32 + 32, i));
+        b = b.read(i % 32 + 32, i).bench;
         if i % 3 == 0 {
-            b = after(b.write(i % 32 + 32, i));
+            b = b.write(i % 32 + 32, i).bench;
         }
     }
     for n in 32..64u32 {
         if n % 5 == 0 {
-            b = after(b.commit(n));
+            b = b.commit(n).bench;
         }
     }
     b
@@ -66,32 +62,51 @@ pub(crate) struct Walk {
     pub(crate) x: u64,
 }
 
-// One drawn request of 16 numbers and 8 instruments, the last of both among them: in sixteen 2 open top, 5 open sub, 4 read, 3 write, 1 commit
-// and 1 abort.
+// Which request a drawn number stands for: in sixteen 2 open top, 5 open sub, 4 read, 3 write, 1 commit and 1 abort.
+fn code_of(choice: u64) -> u64 {
+    let c = choice % 16;
+    if c < 2 {
+        return 1;
+    }
+    if c < 7 {
+        return 2;
+    }
+    if c < 11 {
+        return 3;
+    }
+    if c < 14 {
+        return 4;
+    }
+    if c < 15 {
+        return 5;
+    }
+    6
+}
+
+// One of 16 numbers, the last among them.
+fn number_of(x: u64) -> u32 {
+    (x % 16 * 4 + 3) as u32
+}
+
+// What the second number of a request is: a parent for open sub, and one of 8 instruments, the last among them, for read and write.
+fn second_of(code: u64, x: u64) -> u32 {
+    if code == 2 {
+        return number_of(x);
+    }
+    (x % 8 * 18 + 1) as u32
+}
+
+// One drawn request.
 fn step(w: Walk) -> Walk {
     let choice = following(w.x);
     let first = following(choice);
     let second = following(first);
-    let number = (first % 16 * 4 + 3) as u32;
-    let parent = (second % 16 * 4 + 3) as u32;
-    let instrument = (second % 8 * 18 + 1) as u32;
-    let mut b = w.bench;
-    let c = choice % 16;
-    if c < 2 {
-        b = after(b.open_top(number));
-    } else if c < 7 {
-        b = after(b.open_sub(number, parent));
-    } else if c < 11 {
-        b = after(b.read(number, instrument));
-    } else if c < 14 {
-        b = after(b.write(number, instrument));
-    } else if c < 15 {
-        b = after(b.commit(number));
-    } else {
-        b = after(b.abort(number));
-    }
+    let code = code_of(choice);
+    let before = w.bench;
+    let reply = asked(before, code, number_of(first), second_of(code, second));
+    let left = reply.bench;
     Walk {
-        bench: b,
+        bench: left,
         x: second,
     }
 }

@@ -1,9 +1,4 @@
-// Drawn numbers: each follows from the one before, and all stay below 2,147,483,647.
-
-// The number after x.
-pub(crate) fn following(x: u64) -> u64 {
-    x % 2147483647 * 48271 % 2147483647
-}
+// What a drawn number gives.
 
 // The character of a digit below 16.
 fn digit(d: u64) -> u8 {

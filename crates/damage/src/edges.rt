@@ -1,9 +1,11 @@
 // Save on both sides of its edges. A line for each: the answer, how many bytes it says that it wrote, how many bytes of a buffer of 5,320, of which
 // it was lent the first ones, are as they were, and the sum of the whole buffer.
 use crate::benches;
-use crate::tally::folded_bytes;
 use bench::Bench;
 use saved::Saved;
+use trials::show::count;
+use trials::show::last_sum;
+use trials::sums::folded_bytes;
 
 // How many bytes have the value that the buffer was filled with, which no text has.
 fn unchanged(buffer: &[u8]) -> u64 {
@@ -27,13 +29,9 @@ fn save_into_first(b: Bench, buffer: &mut [u8], room: usize) -> Saved {
 // Writes the line of a save.
 fn show(reply: Saved, buffer: [u8; 5320]) {
     io::print_hex(1, reply.answer as u64, 2);
-    io::write_all(1, b" ");
-    io::print_decimal(1, reply.count as u64);
-    io::write_all(1, b" ");
-    io::print_decimal(1, unchanged(&buffer));
-    io::write_all(1, b" ");
-    io::print_hex(1, folded_bytes(&buffer), 8);
-    io::write_all(1, b"\n");
+    count(reply.count as u64);
+    count(unchanged(&buffer));
+    last_sum(folded_bytes(&buffer));
 }
 
 // A save into this many bytes.

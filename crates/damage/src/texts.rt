@@ -1,7 +1,7 @@
 // Short texts, and the ways of damaging one.
 use crate::draw::byte_of;
-use crate::draw::following;
 use crate::draw::place_of;
+use trials::draw::following;
 
 // The first `count` bytes are the text's.
 pub(crate) struct Text {

@@ -6,10 +6,10 @@ use Rattle.rules.specs.Requests.{openTop, openSub, commit, abort}
 use Rattle.rules.specs.ReadWrite.{read, write}
 use Rattle.bench.specs.declared.Bench.{Bench}
 use Rattle.bench.specs.declared.Reply.{Reply}
-use Rattle.bench.specs.declared.Fed.{Fed}
+use Rattle.play.specs.declared.Fed.{Fed}
 use Rattle.bench.specs.Plays.{IsEmpty, Returns}
-use Rattle.bench.specs.Feeding.{FedAs, ExplainedAs}
-use Rattle.bench.specs.Finishing.{FinishedAs, FinishedExplainingAs}
+use Rattle.play.specs.Feeding.{FedAs, ExplainedAs}
+use Rattle.play.specs.Finishing.{FinishedAs, FinishedExplainingAs}
 use Rattle.bench.proofs.Bench.empty.Reads as of-empty
 use Rattle.bench.proofs.Bench.open_top.Reads as of-open-top
 use Rattle.bench.proofs.Bench.open_sub.Reads as of-open-sub
@@ -17,10 +17,10 @@ use Rattle.bench.proofs.Bench.read.Reads as of-read
 use Rattle.bench.proofs.Bench.write.Reads as of-write
 use Rattle.bench.proofs.Bench.commit.Reads as of-commit
 use Rattle.bench.proofs.Bench.abort.Reads as of-abort
-use Rattle.bench.proofs.Player.feed.Reads as of-feed
-use Rattle.bench.proofs.Player.explain.Reads as of-explain
-use Rattle.bench.proofs.Player.finish.Reads as of-finish
-use Rattle.bench.proofs.Player.finish_explaining.Reads as of-finish-explaining
+use Rattle.play.proofs.Player.feed.Reads as of-feed
+use Rattle.play.proofs.Player.explain.Reads as of-explain
+use Rattle.play.proofs.Player.finish.Reads as of-finish
+use Rattle.play.proofs.Player.finish_explaining.Reads as of-finish-explaining
 
 pub empty-ensures : (r : Bench) → of-empty.Learnt tt tt r tt → IsEmpty r
 empty-ensures r learnt = learnt

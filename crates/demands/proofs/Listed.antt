@@ -16,7 +16,7 @@ use Rattle.rules.specs.Bench.{State, free, running, committed, meaningless}
 use Rattle.rules.specs.Bench as rules
 use Rattle.rules.proofs.Tests.{by-bool, by-last, or-right}
 use Rattle.views.specs.View.{stateOf, parentOf, setsOf}
-use Rattle.views.proofs.Stores.{same-bench}
+use Rattle.tables.proofs.Stores.{same-bench}
 use Rattle.bench.specs.declared.Bench.{Bench}
 use Rattle.bench.specs.Record.{viewed}
 use Rattle.bench.proofs.Unique.{Fits, byteOf}

@@ -1,7 +1,7 @@
 -- Demand 2 of what the methods return, in document 01's words: read sets, write sets and owners by Moss's rules, with no plain machine to find and no table
 -- of conflicts. Assumes nothing.
 use mathlib.Core.Path.{_≡_, refl, sym, _∙_, ap, subst}
-use mathlib.Core.Bool.{Bool, true, false, _&&_, _||_, or-false}
+use mathlib.Core.Bool.{true, false, _&&_, _||_, or-false}
 use mathlib.Core.Logic.{_↔_}
 use mathlib.Core.Option.{some}
 use Prim.Native.Nat.{ℕ, _<_}
@@ -19,13 +19,13 @@ use Rattle.rules.proofs.Grants.{read-granted, write-granted}
 use Rattle.rules.proofs.OwnerChanges.{commit-changes-no-set}
 use Rattle.rules.proofs.CommitOwners.{commit-replaces}
 use Rattle.rules.specs.Moss.{Owner, OwnerWith}
-use Rattle.views.proofs.Steps.{answer-sound, granted-by}
+use Rattle.tables.proofs.Steps.{answer-sound, granted-by}
 use Rattle.bench.specs.declared.Bench.{Bench}
 use Rattle.bench.specs.declared.Reply.{Reply}
 use Rattle.bench.specs.Record.{viewed}
 use Rattle.bench.specs.Plays.{Returns}
-use Rattle.demands.specs.Moss.{inReadSet, inWriteSet, AllInLine, Asker, GrantedExactlyIf, HandsUp}
 use Rattle.bench.proofs.Unique.{Fits, same-sets, same-reply}
+use Rattle.demands.specs.Moss.{inReadSet, inWriteSet, AllInLine, Asker, GrantedExactlyIf, HandsUp}
 
 -- ---- granted exactly
 
@@ -74,10 +74,10 @@ module _ (b : Bench) (q : Request) (r : Reply) (returned : Returns b q r) (accep
   answer-zero = sym (ap (λ o. o .answer) returned) ∙ accepted
 
   was-sound : sound readWrite (viewed b) ≡ true
-  was-sound = granted-by (viewed b) q (answerOf readWrite (viewed b) q) refl answer-zero .isSound
+  was-sound = granted-by readWrite (viewed b) q (answerOf readWrite (viewed b) q) refl answer-zero .isSound
 
   row-zero : row readWrite (viewed b) q ≡ 0
-  row-zero = answer-sound (viewed b) q true (sym was-sound) refl ∙ answer-zero
+  row-zero = answer-sound readWrite (viewed b) q true (sym was-sound) refl ∙ answer-zero
 
   left : viewed (r .bench) ≡ effect readWrite (viewed b) q
   unfolding step

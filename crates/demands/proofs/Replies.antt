@@ -20,7 +20,7 @@ use Rattle.rules.proofs.Tests.{by-bool, by-parent, and-left, and-right}
 use Rattle.rules.proofs.Accepted.{Accepted}
 use Rattle.rules.proofs.Sessions.{requestsOf, answersOf, whole-trace-holds}
 use Rattle.views.specs.View.{stateOf, parentOf}
-use Rattle.views.proofs.Steps.{granted-by}
+use Rattle.tables.proofs.Steps.{granted-by}
 use Rattle.bench.specs.declared.Bench.{Bench}
 use Rattle.bench.specs.declared.Reply.{Reply}
 use Rattle.bench.specs.Record.{viewed}
@@ -131,7 +131,7 @@ step-within : (v : rules.Bench) → Within v → (q : Request) → methodOf q �
 unfolding step
 step-within v w q known =
     by-bool (eqb (answerOf readWrite v q) 0)
-    (λ t. rw t (effect-within v w q (granted-by v q (answerOf readWrite v q) refl (eqb-true (answerOf readWrite v q) 0 t) .facts) known))
+    (λ t. rw t (effect-within v w q (granted-by readWrite v q (answerOf readWrite v q) refl (eqb-true (answerOf readWrite v q) 0 t) .facts) known))
     (λ t. rw t w)
 
 -- ---- replies

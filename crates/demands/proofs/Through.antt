@@ -10,12 +10,12 @@ use Rattle.rules.specs.Bench as rules
 use Rattle.rules.specs.Requests.{Request}
 use Rattle.lines.specs.Lines.{answerLine}
 use Rattle.lines.specs.Feeding.{fed, saidBy, said}
-use Rattle.bench.specs.declared.Player.{Player}
-use Rattle.bench.specs.declared.Fed.{Fed}
-use Rattle.bench.specs.Feeding.{feeding, FedAsBy, FedAs}
-use Rattle.bench.specs.Feeds.{FeedsBy, stopped, then}
+use Rattle.play.specs.declared.Player.{Player}
+use Rattle.play.specs.declared.Fed.{Fed}
+use Rattle.play.specs.Feeding.{feeding, FedAsBy, FedAs}
+use Rattle.play.specs.Feeds.{FeedsBy, stopped, then}
 use Rattle.demands.specs.Through.{ThroughBy, done, again}
-use Rattle.bench.proofs.Traces.{feeds-as}
+use Rattle.play.proofs.Traces.{feeds-as}
 
 -- Replies that a contract allows, one for each player and what it is lent.
 pub record Feeder (say : rules.Bench → Option Request → List ℕ) (width : ℕ) : Type 0 where

@@ -5,9 +5,9 @@ use Prim.Native.Nat.{ℕ, zero, suc, _≤_}
 use lib.ListN.{length, take, drop}
 use Rattle.rules.specs.Bench as rules
 use Rattle.rules.specs.Requests.{Request}
-use Rattle.bench.specs.declared.Player.{Player}
-use Rattle.bench.specs.declared.Fed.{Fed}
-use Rattle.bench.specs.Feeding.{FedAsBy}
+use Rattle.play.specs.declared.Player.{Player}
+use Rattle.play.specs.declared.Fed.{Fed}
+use Rattle.play.specs.Feeding.{FedAsBy}
 
 -- `ThroughBy say width p input calls ys q`: the input was lent, and what a call didn't take lent again, each time with room for one line's text, until nothing
 -- was left. That took so many calls; the player p wrote ys in all, and became q.

@@ -9,15 +9,15 @@ use lib.Dec.{eqb}
 use lib.ListN.{length, getD, set, take, drop, length-append}
 use Rattle.rules.proofs.Tests.{and-left, and-right}
 use Rattle.bench.specs.declared.Bench.{Bench}
-use Rattle.bench.specs.declared.Player.{Player}
-use Rattle.bench.specs.declared.Fed.{Fed}
+use Rattle.play.specs.declared.Player.{Player}
+use Rattle.play.specs.declared.Fed.{Fed}
 use Rattle.bench.specs.Record.{viewed}
-use Rattle.bench.specs.Image.{isImage, imageView, recordOf, StoredAs}
+use Rattle.image.specs.Image.{isImage, imageView, recordOf, StoredAs}
 use Rattle.lines.specs.Feeding.{Feeding, taken, fed, said}
-use Rattle.bench.specs.Feeding.{feeding, FedAs}
-use Rattle.bench.specs.Finishing.{saidLast, fedLast, FinishedAs}
+use Rattle.play.specs.Feeding.{feeding, FedAs}
+use Rattle.play.specs.Finishing.{saidLast, fedLast, FinishedAs}
 use Rattle.lines.proofs.FeedLaws.{taken-long}
-use Rattle.bench.proofs.Images.{put-view}
+use Rattle.image.proofs.Images.{put-view}
 use Rattle.dikothelm.specs.Calls.{playable, lineCount, standing, Moved, Played, Finished}
 
 -- four words, each replaced

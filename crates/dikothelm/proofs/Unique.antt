@@ -6,8 +6,8 @@ use Prim.Native.Nat.{ℕ}
 use Rattle.rules.proofs.Tests.{by-bool}
 use Rattle.lines.specs.Feeding.{Feeding}
 use Rattle.bench.specs.declared.Bench.{Bench}
-use Rattle.bench.specs.Image.{isImage}
-use Rattle.bench.proofs.UniqueCalls.{WordsFit, image-injective}
+use Rattle.image.specs.Image.{isImage}
+use Rattle.image.proofs.UniqueImages.{WordsFit, image-injective}
 use Rattle.dikothelm.specs.Calls.{Replaced, SavedAs, SizeTold, playable, Moved}
 
 module _ (actions owners : List ℕ) (x y : ℕ) where

@@ -10,9 +10,9 @@ use Rattle.rules.specs.Tests.{if_then_else_}
 use Rattle.rules.specs.Sound.{sound}
 use Rattle.rules.specs.ReadWrite.{readWrite}
 use Rattle.bench.specs.declared.Bench.{Bench}
-use Rattle.bench.specs.Image.{isImage, imageView, recordOf}
+use Rattle.image.specs.Image.{isImage, imageView, recordOf}
 use Rattle.lines.specs.Feeding.{Feeding, taken, fed, said}
-use Rattle.bench.specs.Finishing.{saidLast, fedLast}
+use Rattle.play.specs.Finishing.{saidLast, fedLast}
 use Rattle.saved.specs.Saved.{savedAs, sizedAs, bufferAfter}
 
 -- The image is replaced by that of a record, and `given` is answered.

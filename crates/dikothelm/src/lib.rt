@@ -1,16 +1,16 @@
 // The bench for C callers. The caller keeps the bench's image and lends it to each call: a pointer and a count to 128 bytes, the parents of the 64 numbers
 // and then their states, and to 256 words, the read sets of the 128 instruments and then the write sets. Nothing is kept between calls.
-mod play;
+mod feed;
 
 use bench::Bench;
-use bench::answers::ACCEPTED;
-use bench::answers::UNSOUND;
-use bench::image;
+use image;
+use marks::answers::ACCEPTED;
+use marks::answers::UNSOUND;
 ghost use mathlib.Core.Path.{_≡_};
 ghost use mathlib.Core.Option.{some};
 ghost use Rattle.rules.specs.Requests.{openTop, openSub, commit, abort};
 ghost use Rattle.rules.specs.ReadWrite.{read, write};
-ghost use Rattle.bench.specs.Image.{Requested};
+ghost use Rattle.image.specs.Image.{Requested};
 ghost use Rattle.saved.specs.Saved.{emptyRecord, loadOf};
 ghost use Rattle.dikothelm.specs.Calls.{Replaced, soundAnswer, SavedAs, SizeTold};
 

@@ -14,7 +14,9 @@ use Rattle.digits.specs.Digits.{digitOf}
 use Rattle.rules.specs.Tests.{if_then_else_}
 use Rattle.rules.specs.Bench as rules
 use Rattle.rules.proofs.Tests.{by-bool, and-left, and-right, and-both, same}
-use Rattle.lines.specs.Lines.{areDigits, shortFrame, longFrame, frameOf, requestOf, answered}
+use Rattle.rules.specs.Answers.{answered}
+use Rattle.rules.specs.ReadWrite.{readWrite}
+use Rattle.lines.specs.Lines.{areDigits, shortFrame, longFrame, frameOf, requestOf}
 use Rattle.lines.specs.Feeding.{Feeding, between, heldRequest, mayGoOn, countAfter, valueAfter, fedByte}
 
 -- the number that digits write after a number v
@@ -113,7 +115,8 @@ same-choice s false x x' y e h = ap (λ u. if u then x else y) e
 pub fed-character : (f : Feeding) (c : ℕ) → eqb c 10 ≡ false → fedByte f c ≡ record { bench = f .bench; count = countAfter (f .count) c; value = valueAfter (f .count) (f .value) c }
 unfolding fedByte
 fed-character f c e =
-    ap (λ t. if t then between (answered (f .bench) (heldRequest (f .count) (f .value)) .next) else record { bench = f .bench; count = countAfter (f .count) c; value = valueAfter (f .count) (f .value) c }) e
+    ap (λ t. if t then between (answered readWrite (f .bench) (heldRequest (f .count) (f .value)) .next)
+    else record { bench = f .bench; count = countAfter (f .count) c; value = valueAfter (f .count) (f .value) c }) e
 
 -- five digits and one more have room
 value-room : (line : List ℕ) → fits line ≡ true → length line ≤ 5 → numberFrom 0 line % 16777216 ≡ numberFrom 0 line

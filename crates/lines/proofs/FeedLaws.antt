@@ -17,8 +17,8 @@ use Rattle.rules.specs.Bench as rules
 use Rattle.rules.specs.Requests.{Request}
 use Rattle.rules.proofs.Tests.{by-bool, and-both}
 use Rattle.views.specs.View.{view}
-use Rattle.lines.specs.Lines.{answered, answerText}
-use Rattle.lines.specs.Arrays.{LineEnded}
+use Rattle.views.specs.Arrays.{LineEnded}
+use Rattle.lines.specs.Lines.{answerText}
 use Rattle.lines.specs.Feeding.{Feeding, between, heldRequest, mayGoOn, countAfter, valueAfter, fedByte, saidByteBy, fed, saidBy, takenBy, taken, feedingOf, FedBytesBy}
 use Rattle.lines.specs.NextEnds.{EndsAs, FedOnBy}
 use Rattle.lines.proofs.LineFeeding.{fed-append, said-append}

@@ -5,11 +5,9 @@
 -- LineFeeding: feeding byte by byte plays the lines of a trace, however its bytes are cut.
 -- TraceCases: document 01's whole case and lines of other shapes, computed.
 -- WholeLines: lines that end within the input, read at once.
--- IndexKept: the sets that the player keeps beside the arrays, after each step.
 pub mod LineEnds
 pub mod FeedLaws
 pub mod BegunLines
 pub mod LineFeeding
 pub mod TraceCases
 pub mod WholeLines
-pub mod IndexKept

@@ -12,7 +12,9 @@ use Rattle.rules.specs.Tests.{if_then_else_}
 use Rattle.rules.specs.Bench as rules
 use Rattle.rules.specs.Requests.{Request}
 use Rattle.rules.proofs.Tests.{by-bool, and-left, and-right, and-both}
-use Rattle.lines.specs.Lines.{before, linesOf, requestOf, answered, answerLine, writtenBy, leftBy, outputBy}
+use Rattle.rules.specs.Answers.{answered}
+use Rattle.rules.specs.ReadWrite.{readWrite}
+use Rattle.lines.specs.Lines.{before, linesOf, requestOf, answerLine, writtenBy, leftBy, outputBy}
 use Rattle.lines.specs.Feeding.{Feeding, between, heldRequest, fedByte, saidByteBy, fed, saidBy, saidAtEndBy}
 use Rattle.lines.proofs.BegunLines.{fits, Begun, begun-none, begun-more, begun-request, count-by, fed-character}
 
@@ -123,20 +125,23 @@ module _ (say : rules.Bench → Option Request → List ℕ) where
         says = ap (λ t. if t then [] else saidByteBy say f 10) e
             ∙ ap (λ q. say (f .bench) q) r
             ∙ sym (append-nil (say (f .bench) (requestOf (c ∷ line))));
-        leaves = ap (λ t. if t then f .bench else fedByte f 10 .bench) e ∙ ap (λ q. answered (f .bench) q .next) r;
+        leaves = ap (λ t. if t then f .bench else fedByte f 10 .bench) e ∙ ap (λ q. answered readWrite (f .bench) q .next) r;
       })
 
   -- a byte 0a
-  line-ends : (f : Feeding) (line rest : List ℕ) → Begun f line → unended line ≡ true → PlaysAs (between (answered (f .bench) (requestOf line) .next)) rest (linesOf rest) → PlaysAs f (10 ∷ rest) (linesOf (line ++ (10 ∷ rest)))
+  line-ends : (f : Feeding) (line rest : List ℕ) → Begun f line → unended line ≡ true →
+      PlaysAs (between (answered readWrite (f .bench) (requestOf line) .next)) rest (linesOf rest) → PlaysAs f (10 ∷ rest) (linesOf (line ++ (10 ∷ rest)))
   unfolding saidBy fed saidByteBy fedByte writtenBy leftBy
   line-ends f line rest h u p =
       let e = begun-request f line h in
       rw (lines-ended line rest u)
       (record {
-        says = append-assoc (say (f .bench) (heldRequest (f .count) (f .value))) (saidBy say (between (answered (f .bench) (heldRequest (f .count) (f .value)) .next)) rest) (saidAtEndBy say (fed (between (answered (f .bench) (heldRequest (f .count) (f .value)) .next)) rest))
-            ∙ ap (λ r. let next = answered (f .bench) r .next in say (f .bench) r ++ (saidBy say (between next) rest ++ saidAtEndBy say (fed (between next) rest))) e
+        says = append-assoc (say (f .bench) (heldRequest (f .count) (f .value)))
+            (saidBy say (between (answered readWrite (f .bench) (heldRequest (f .count) (f .value)) .next)) rest)
+            (saidAtEndBy say (fed (between (answered readWrite (f .bench) (heldRequest (f .count) (f .value)) .next)) rest))
+            ∙ ap (λ r. let next = answered readWrite (f .bench) r .next in say (f .bench) r ++ (saidBy say (between next) rest ++ saidAtEndBy say (fed (between next) rest))) e
             ∙ ap (λ text. say (f .bench) (requestOf line) ++ text) (p .says);
-        leaves = ap (λ r. leftAtEnd (fed (between (answered (f .bench) r .next)) rest)) e ∙ p .leaves;
+        leaves = ap (λ r. leftAtEnd (fed (between (answered readWrite (f .bench) r .next)) rest)) e ∙ p .leaves;
       })
 
   -- any other byte
@@ -157,7 +162,7 @@ module _ (say : rules.Bench → Option Request → List ℕ) where
   plays-lines [] f line h u = rw (append-nil line) (at-end f line h u)
   plays-lines (c ∷ rest) f line h u =
       by-bool (eqb c 10)
-      (λ end. let next = answered (f .bench) (requestOf line) .next in
+      (λ end. let next = answered readWrite (f .bench) (requestOf line) .next in
       rw (eqb-true c 10 end) (line-ends f line rest h u (plays-lines rest (between next) [] (begun-none next) refl)))
       (λ on. line-goes-on f line c rest on (plays-lines rest (fedByte f c) (line ++ (c ∷ [])) (begun-more f line c on h) (unended-more line c u on)))
 

@@ -1,37 +1,37 @@
 -- Trace lines on small inputs, by computation: document 01's whole case, lines that have no request, and where lines end. Assumes nothing.
 use mathlib.Core.Path.{_≡_, refl, _∙_, ap}
 use mathlib.Core.List.{List, [], _∷_, _++_, map, flatten}
-use mathlib.Core.Option.{Option, none, some}
+use mathlib.Core.Option.{Option, some}
 use Prim.Native.Nat.{ℕ}
 use Prim.Native.String.{String}
 use lib.ListN.{getD}
 use Rattle.rules.specs.Bench as rules
 use Rattle.rules.specs.Requests.{Request, openTop, openSub, commit, abort}
-use Rattle.rules.specs.Answers.{answers}
+use Rattle.rules.specs.Answers.{answers, answered}
 use Rattle.rules.specs.ReadWrite.{readWrite, read, write}
 use Rattle.rules.specs.Sessions.{sessions}
 use Rattle.rules.proofs.Sessions.{requestsOf, answersOf, sessions-hold}
 use Rattle.lines.specs.Bytes.{bytesOf}
-use Rattle.lines.specs.Lines.{linesOf, requestOf, answered, answerText, writtenBy, written, leftBy, outputBy, outputOf}
+use Rattle.lines.specs.Lines.{linesOf, requestOf, answerText, writtenBy, written, leftBy, outputBy, outputOf}
 
 -- ---- the whole case
 
 -- what is written for requests that lines may have
 played : rules.Bench → List (Option Request) → List ℕ
 played b [] = []
-played b (q ∷ rest) = let o = answered b q in answerText (o .answer) ++ played (o .next) rest
+played b (q ∷ rest) = let o = answered readWrite b q in answerText (o .answer) ++ played (o .next) rest
 
 written-played : (b : rules.Bench) (lines : List (List ℕ)) → written b lines ≡ played b (map requestOf lines)
 unfolding writtenBy played
 written-played b [] = refl
 written-played b (line ∷ rest) =
-    let o = answered b (requestOf line) in ap (λ text. answerText (o .answer) ++ text) (written-played (o .next) rest)
+    let o = answered readWrite b (requestOf line) in ap (λ text. answerText (o .answer) ++ text) (written-played (o .next) rest)
 
 played-answers : (b : rules.Bench) (rs : List Request) → played b (map some rs) ≡ flatten (map answerText (answers readWrite b rs))
 unfolding played flatten answers
 played-answers b [] = refl
 played-answers b (r ∷ rs) =
-    let o = answered b (some r) in ap (λ text. answerText (o .answer) ++ text) (played-answers (o .next) rs)
+    let o = answered readWrite b (some r) in ap (λ text. answerText (o .answer) ++ text) (played-answers (o .next) rs)
 
 wholeRequests : List Request
 wholeRequests =

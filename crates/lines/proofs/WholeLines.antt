@@ -1,6 +1,6 @@
 -- Lines that end within the input: digits and 0a, fed from a line's start, are answered as the frame of the digits is. Assumes nothing.
-use mathlib.Core.Path.{_≡_, refl, sym, _∙_, ap, ap₂, subst}
-use mathlib.Core.Bool.{Bool, true, false, _&&_}
+use mathlib.Core.Path.{_≡_, refl, _∙_, ap, ap₂, subst}
+use mathlib.Core.Bool.{true, false, _&&_}
 use mathlib.Core.List.{List, [], _∷_, _++_, append-assoc, append-nil}
 use mathlib.Core.Option.{Option, none}
 use Prim.Native.Nat.{ℕ, zero, suc, _+_, _≤_, _<_}
@@ -14,10 +14,12 @@ use Rattle.digits.specs.Digits.{digitOf}
 use Rattle.rules.specs.Tests.{if_then_else_}
 use Rattle.rules.specs.Bench as rules
 use Rattle.rules.specs.Requests.{Request}
-use Rattle.rules.proofs.Tests.{by-bool, and-left, and-right, and-both}
-use Rattle.lines.specs.Lines.{areDigits, byteOf, shortFrame, longFrame, frameOf, requestOf, answered}
-use Rattle.lines.specs.Feeding.{Feeding, between, framed, heldRequest, fedByte, saidByteBy, fed, saidBy}
-use Rattle.lines.specs.NextEnds.{pairOf, EndsAs, WholeLine, BegunEnd, NextEnd}
+use Rattle.rules.proofs.Tests.{by-bool, and-left, and-right}
+use Rattle.rules.specs.Answers.{answered}
+use Rattle.rules.specs.ReadWrite.{readWrite}
+use Rattle.lines.specs.Lines.{areDigits, byteOf, shortFrame, longFrame, frameOf, requestOf}
+use Rattle.lines.specs.Feeding.{Feeding, between, heldRequest, fedByte, saidByteBy, fed, saidBy}
+use Rattle.lines.specs.NextEnds.{pairOf, EndsAs}
 use Rattle.lines.proofs.BegunLines.{Begun, begun-none, begun-more, begun-request, fed-character}
 use Rattle.lines.proofs.LineFeeding.{fed-append, said-append}
 
@@ -58,10 +60,10 @@ digits-end line h = record { leads = leads; says = says }
     request b =
         begun-request (fed (between b) line) line (ended b .begun) ∙ ap (λ t. if t then frameOf line else none) h
 
-    leads : (b : rules.Bench) → fed (between b) (line ++ (10 ∷ [])) ≡ between (answered b (frameOf line) .next)
+    leads : (b : rules.Bench) → fed (between b) (line ++ (10 ∷ [])) ≡ between (answered readWrite b (frameOf line) .next)
     leads b =
         fed-append (between b) line (10 ∷ [])
-        ∙ ap₂ (λ bench r. between (answered bench r .next)) (ended b .kept) (request b)
+        ∙ ap₂ (λ bench r. between (answered readWrite bench r .next)) (ended b .kept) (request b)
 
     says : (say : rules.Bench → Option Request → List ℕ) (b : rules.Bench) → saidBy say (between b) (line ++ (10 ∷ [])) ≡ say b (frameOf line)
     says say b =
@@ -112,48 +114,32 @@ long-ends a b c d e f h g k =
     rw (first .2, second .2, third .2)
     (digits-end (a ∷ b ∷ c ∷ d ∷ e ∷ f ∷ []) (rw (first .0, first .1, second .0, second .1, third .0, third .1)))
 
--- ---- ends that were found
-
-pub no-whole : {count value : ℕ} {input : List ℕ} {at code x y size : ℕ} → size ≡ 0 → code ≡ 0 → WholeLine count value input at code x y size
-no-whole none-found z =
-    record { small = omega arith; within = λ some. absurd (some none-found); ends = λ some. absurd (some none-found) }
+-- ---- in the input
 
 module _ (input : List ℕ) (at : ℕ) (room : at + 7 ≤ length input) where
   -- so many characters from a place on
   front : (n : ℕ) → n ≤ 7 → take n (drop at input) ≡ characters n input at 0
   front n h = rw add-zero at (take-characters n input at 0 (omega arith))
 
-  module _ {code x y size p q : ℕ} (e : p ≡ pairOf (getD input at 0) (getD input (at + 1) 0)) (h : p < 256) (g : q ≡ pairOf (getD input (at + 2) 0) (getD input (at + 3) 0)) (k : q < 256) (small : code ≤ 6) where
-    pub short-whole : getD input (at + 4) 0 ≡ 10 → size ≡ 5 → framed code x y ≡ shortFrame p q → WholeLine 0 0 input at code x y size
-    short-whole end five frame =
-        let line : take 5 (drop at input) ≡ getD input at 0 ∷ getD input (at + 1) 0 ∷ getD input (at + 2) 0 ∷ getD input (at + 3) 0 ∷ getD input (at + 4) 0 ∷ [] = rw add-zero at (front 5 (omega arith)) in
-        record {
-          small = small;
-          within = λ some. omega arith;
-          ends = λ some. rw (five, line, end, frame, e, g) (short-ends _ _ _ _ (rw e at h) (rw g at k));
-        }
+  -- p and q are what the first four characters write
+  module _ {p q : ℕ} (e : p ≡ pairOf (getD input at 0) (getD input (at + 1) 0)) (h : p < 256)
+      (g : q ≡ pairOf (getD input (at + 2) 0) (getD input (at + 3) 0)) (k : q < 256) where
+    pub short-whole : getD input (at + 4) 0 ≡ 10 → EndsAs 0 0 (take 5 (drop at input)) (shortFrame p q)
+    short-whole end = rw (line, end, e, g) (short-ends _ _ _ _ (rw e at h) (rw g at k))
+      where
+        line : take 5 (drop at input) ≡ getD input at 0 ∷ getD input (at + 1) 0 ∷ getD input (at + 2) 0 ∷ getD input (at + 3) 0 ∷ getD input (at + 4) 0 ∷ []
+        line = rw add-zero at (front 5 (omega arith))
 
-    pub long-whole : {r : ℕ} → r ≡ pairOf (getD input (at + 4) 0) (getD input (at + 5) 0) → r < 256 → getD input (at + 6) 0 ≡ 10 → size ≡ 7 → framed code x y ≡ longFrame p q r → WholeLine 0 0 input at code x y size
-    long-whole e₃ h₃ end seven frame =
-        let line : take 7 (drop at input) ≡ getD input at 0 ∷ getD input (at + 1) 0 ∷ getD input (at + 2) 0 ∷ getD input (at + 3) 0 ∷ getD input (at + 4) 0 ∷ getD input (at + 5) 0 ∷ getD input (at + 6) 0 ∷ [] = rw add-zero at (front 7 (omega arith)) in
-        record {
-          small = small;
-          within = λ some. omega arith;
-          ends = λ some. rw (seven, line, end, frame, e, g, e₃) (long-ends _ _ _ _ _ _ (rw e at h) (rw g at k) (rw e₃ at h₃));
-        }
+    -- and r what the next two write
+    pub long-whole : {r : ℕ} → r ≡ pairOf (getD input (at + 4) 0) (getD input (at + 5) 0) → r < 256 → getD input (at + 6) 0 ≡ 10 → EndsAs 0 0 (take 7 (drop at input)) (longFrame p q r)
+    long-whole e₃ h₃ end = rw (line, end, e, g, e₃) (long-ends _ _ _ _ _ _ (rw e at h) (rw g at k) (rw e₃ at h₃))
+      where
+        line : take 7 (drop at input) ≡ getD input at 0 ∷ getD input (at + 1) 0 ∷ getD input (at + 2) 0 ∷ getD input (at + 3) 0 ∷ getD input (at + 4) 0 ∷ getD input (at + 5) 0 ∷ getD input (at + 6) 0 ∷ []
+        line = rw add-zero at (front 7 (omega arith))
 
--- the line that has begun, or none
-pub begun-ends : {count value : ℕ} {input : List ℕ} {at c code x y size : ℕ} → at < length input → c ≡ getD input at 0 → BegunEnd count value c code x y size → NextEnd count value input at code x y size
+-- the 0a of the line that has begun
+pub begun-ends : {count value : ℕ} (input : List ℕ) (at : ℕ) → at < length input → getD input at 0 ≡ 10 → EndsAs count value (take 1 (drop at input)) (heldRequest count value)
 unfolding fed saidBy fedByte saidByteBy
-begun-ends {count} {value} {input} {at} {c} l e m =
-    let line : take 1 (drop at input) ≡ c ∷ [] = rw e (rw add-zero at (take-characters 1 input at 0 (omega arith))) in
-    record {
-      small = m .small;
-      goesOn = λ none-found end. m .goesOn none-found (e ∙ end);
-      within = λ some. let one = m .sized some in omega arith;
-      ends = λ some. rw (m .sized some, line, m .ended some, m .frame some) (record { leads = λ b. refl; says = λ say b. append-nil (say b (heldRequest count value)) });
-    }
-
-pub whole-ends : {count value : ℕ} {input : List ℕ} {at code x y size : ℕ} → (size ≡ 0 → ⊥) → WholeLine count value input at code x y size → NextEnd count value input at code x y size
-whole-ends some m =
-    record { small = m .small; goesOn = λ none-found. absurd (some none-found); within = m .within; ends = m .ends }
+begun-ends {count} {value} input at inside end =
+    let line : take 1 (drop at input) ≡ getD input at 0 ∷ [] = rw add-zero at (take-characters 1 input at 0 (omega arith)) in
+    rw (line, end) (record { leads = λ b. refl; says = λ say b. append-nil (say b (heldRequest count value)) })

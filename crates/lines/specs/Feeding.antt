@@ -2,7 +2,7 @@
 -- count of 7 says that no request can come of the line any more.
 use mathlib.Core.Bool.{Bool, _&&_}
 use mathlib.Core.List.{List, [], _∷_, _++_}
-use mathlib.Core.Option.{Option, none, some}
+use mathlib.Core.Option.{Option, none}
 use mathlib.Core.Path.{_≡_}
 use Prim.Native.Nat.{ℕ, _+_, _*_, _/_, _%_, min}
 use lib.Dec.{eqb, ltb}
@@ -10,11 +10,12 @@ use lib.ListN.{length}
 use Rattle.digits.specs.Digits.{digitOf}
 use Rattle.rules.specs.Tests.{if_then_else_}
 use Rattle.rules.specs.Bench as rules
-use Rattle.rules.specs.Requests.{Request, openTop, openSub, commit, abort}
-use Rattle.rules.specs.ReadWrite.{read, write}
+use Rattle.rules.specs.Requests.{Request}
 use lib.Seq.{sets}
 use Rattle.views.specs.View.{view}
-use Rattle.lines.specs.Lines.{shortFrame, longFrame, answered, answerLine}
+use Rattle.rules.specs.Answers.{answered}
+use Rattle.rules.specs.ReadWrite.{readWrite}
+use Rattle.lines.specs.Lines.{shortFrame, longFrame, answerLine}
 
 pub record Feeding : Type 0 where
   pub bench : rules.Bench
@@ -24,17 +25,6 @@ pub record Feeding : Type 0 where
 -- nothing of a line has come yet
 abbrev pub between : rules.Bench → Feeding
 between b = record { bench = b; count = 0; value = 0 }
-
--- the request of a frame's code and two numbers, a spare one ignored
-abbrev pub framed : ℕ → ℕ → ℕ → Option Request
-framed code x y =
-    if eqb code 1 then some (openTop x)
-    else if eqb code 2 then some (openSub x y)
-    else if eqb code 3 then some (read x y)
-    else if eqb code 4 then some (write x y)
-    else if eqb code 5 then some (commit x)
-    else if eqb code 6 then some (abort x)
-    else none
 
 -- the request of the line as it stands
 unfoldable pub heldRequest : ℕ → ℕ → Option Request
@@ -57,7 +47,7 @@ valueAfter count value c = if mayGoOn count c then value % 16777216 * 16 + digit
 -- after one byte: a line's end is answered, any other byte is a character of the line
 unfoldable pub fedByte : Feeding → ℕ → Feeding
 fedByte f c =
-    if eqb c 10 then between (answered (f .bench) (heldRequest (f .count) (f .value)) .next)
+    if eqb c 10 then between (answered readWrite (f .bench) (heldRequest (f .count) (f .value)) .next)
     else record { bench = f .bench; count = countAfter (f .count) c; value = valueAfter (f .count) (f .value) c }
 
 -- what is written for it, where `say` gives what is written for a line

@@ -1,5 +1,5 @@
 -- Trace lines (document 01, "Trace lines"): from any bytes to lines, from a line to a request, from a trace to its answers and the final bench.
-use mathlib.Core.Bool.{Bool, true, false, _&&_}
+use mathlib.Core.Bool.{Bool, true, _&&_}
 use mathlib.Core.List.{List, [], _∷_, _++_}
 use mathlib.Core.Option.{Option, none, some}
 use Prim.Native.Nat.{ℕ, _+_, _*_}
@@ -8,7 +8,7 @@ use Rattle.digits.specs.Digits.{hexDigit, digitOf}
 use Rattle.rules.specs.Tests.{if_then_else_}
 use Rattle.rules.specs.Bench as rules
 use Rattle.rules.specs.Requests.{Request, openTop, openSub, commit, abort}
-use Rattle.rules.specs.Answers.{Outcome, step}
+use Rattle.rules.specs.Answers.{answered}
 use Rattle.rules.specs.ReadWrite.{readWrite, read, write}
 
 -- the first line with one more character in front
@@ -61,30 +61,25 @@ frameOf (a ∷ b ∷ c ∷ d ∷ e ∷ f ∷ g ∷ rest) = none
 unfoldable pub requestOf : List ℕ → Option Request
 requestOf line = if areDigits line then frameOf line else none
 
--- What a line does: 8 and nothing changes where it has no request, else as its request.
-abbrev pub answered : rules.Bench → Option Request → Outcome
-answered b none = record { answer = 8; next = b }
-answered b (some r) = step readWrite b r
-
 -- the answer as two hexadecimal digits, and 0a
 abbrev pub answerText : ℕ → List ℕ
 answerText a = 48 ∷ hexDigit a ∷ 10 ∷ []
 
 -- the answer's line, from the bench before it
 abbrev pub answerLine : rules.Bench → Option Request → List ℕ
-answerLine b q = answerText (answered b q .answer)
+answerLine b q = answerText (answered readWrite b q .answer)
 
 -- what is written for lines, where `say` gives what is written for one, and the bench that they leave
 unfoldable pub writtenBy : (rules.Bench → Option Request → List ℕ) → rules.Bench → List (List ℕ) → List ℕ
 writtenBy say b [] = []
-writtenBy say b (line ∷ rest) = say b (requestOf line) ++ writtenBy say (answered b (requestOf line) .next) rest
+writtenBy say b (line ∷ rest) = say b (requestOf line) ++ writtenBy say (answered readWrite b (requestOf line) .next) rest
 
 abbrev pub written : rules.Bench → List (List ℕ) → List ℕ
 written = writtenBy answerLine
 
 unfoldable pub leftBy : rules.Bench → List (List ℕ) → rules.Bench
 leftBy b [] = b
-leftBy b (line ∷ rest) = leftBy (answered b (requestOf line) .next) rest
+leftBy b (line ∷ rest) = leftBy (answered readWrite b (requestOf line) .next) rest
 
 -- What is written for a trace, from an empty bench; its answers are the trace's output.
 unfoldable pub outputBy : (rules.Bench → Option Request → List ℕ) → List ℕ → List ℕ

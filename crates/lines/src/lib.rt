@@ -1,2 +1,1 @@
-// A trace's lines: specs/ defines them, and feeding byte by byte, and proofs/ has the laws of both. What a line that has begun writes is computed here.
-pub mod frames;
+// A trace's lines, and feeding them byte by byte, have no code of their own: specs/ defines them and proofs/ has the laws of both.

@@ -1,10 +1,9 @@
 -- What a frame's code says of its request. Assumes nothing.
-use mathlib.Core.Path.{_≡_, refl, sym, _∙_, ap}
+use mathlib.Core.Path.{_≡_, refl, sym, _∙_}
 use mathlib.Core.Bool.{Bool, true, false, _&&_}
 use mathlib.Core.Option.{Option, none, some, Option·none-ne-some}
-use Prim.Native.Nat.{ℕ, zero, suc, _<_}
+use Prim.Native.Nat.{ℕ, zero, suc}
 use native.Mathlib.Omega.{arith}
-use borrow.Author.Tests.{ne-eqb}
 use lib.Dec.{eqb}
 use Rattle.rules.specs.Tests.{if_then_else_}
 use Rattle.rules.specs.Bench as rules
@@ -14,15 +13,11 @@ use Rattle.rules.specs.ReadWrite.{readWrite, reading, writing, read, write}
 use Rattle.rules.specs.Reasons.{offending, child, reasonFor, reasonOf}
 use Rattle.rules.proofs.Tests.{clash}
 use Rattle.rules.proofs.Reasons.{acting}
-use Rattle.lines.specs.Feeding.{framed}
+use Rattle.rules.specs.Frames.{framed}
+use Rattle.rules.proofs.Frames.{unframed}
 use Rattle.naming.specs.Blocking.{offendingIn}
 
 -- ---- codes
-
--- a code above 6 is no request's
-unframed : (code x y : ℕ) → 6 < code → framed code x y ≡ none
-unframed code x y l =
-    rw (ne-eqb code 1 (λ e. omega arith), ne-eqb code 2 (λ e. omega arith), ne-eqb code 3 (λ e. omega arith), ne-eqb code 4 (λ e. omega arith), ne-eqb code 5 (λ e. omega arith), ne-eqb code 6 (λ e. omega arith))
 
 -- What holds of each code and its request holds of every frame's.
 by-code : (x y : ℕ) (P : ℕ → Request → Type 0) → P 1 (openTop x) → P 2 (openSub x y) → P 3 (read x y) → P 4 (write x y) → P 5 (commit x) → P 6 (abort x) → (code : ℕ) (q : Request) → framed code x y ≡ some q → P code q

@@ -17,10 +17,10 @@ use Rattle.rules.specs.Reasons.{smallest}
 use Rattle.rules.proofs.Tests.{by-bool, by-parent, clash, and-left, and-right, and-both, by-or, or-left, or-right, refuted, any-at, any-by, same}
 use Rattle.rules.proofs.SetForm.{eqb-comm}
 use Rattle.rules.proofs.Smallest.{smallest-none, smallest-is, smallest-one}
-use Rattle.views.specs.Parts.{metFrom, nearestFrom}
-use Rattle.views.proofs.Taken.{Taken}
-use Rattle.views.proofs.Heirs.{nearest-known}
-use Rattle.naming.specs.Blocking.{heirOfSome, againstFrame, blocksIn, blockedBy, blockedIn, childWith}
+use Rattle.views.specs.Tree.{metFrom, nearestFrom}
+use Rattle.tables.proofs.Taken.{Taken}
+use Rattle.tables.proofs.Heirs.{nearest-known}
+use Rattle.naming.specs.Blocking.{heirOfSome, againstFrame, blocksIn, blockedIn, childWith}
 use Rattle.naming.specs.declared.Reason.{Reason}
 
 -- ---- heirs, gathered
@@ -31,7 +31,7 @@ pub record Gathering (parents states : List ℕ) (set heirs rest : ℕ) : Type 0
   pub together : (h : ℕ) → (member heirs h || heirOfSome parents states rest h) ≡ heirOfSome parents states set h
 
 -- of some member: of the one taken, or of some that is left
-some-taken : (s k rest : ℕ) (test : ℕ → Bool) → Taken s k rest → any 64 (λ j. member s j && test j) ≡ (test k || any 64 (λ j. member rest j && test j))
+some-taken : (s k rest : ℕ) (test : ℕ → Bool) → Taken 64 s k rest → any 64 (λ j. member s j && test j) ≡ (test k || any 64 (λ j. member rest j && test j))
 some-taken s k rest test t =
     same (any 64 (λ j. member s j && test j)) (test k || any 64 (λ j. member rest j && test j))
     (λ h.
@@ -64,9 +64,10 @@ module _ (parents states : List ℕ) where
       rw (outside, nobody) (ap (λ s. member s h) (with-outside 64 heirs 64 (omega arith)) ∙ sym (or-false (member heirs h))))
       (λ y found.
       let here : x ≡ y = e ∙ rw (mod-eq-of-lt l, found) in
-      rw (here, found) (member-with 64 heirs y h (nearest-known parents states k y l found) ∙ ap (λ t. member heirs h || t) (eqb-comm h y)))
+      rw (here, found) (member-with 64 heirs y h (nearest-known 64 parents states k y l found) ∙ ap (λ t. member heirs h || t) (eqb-comm h y)))
 
-  pub gathering-turn : (set heirs rest k x next : ℕ) → Gathering parents states set heirs rest → Taken rest k next → x ≡ from (nearestFrom parents states (k % 64)) 64 (λ y. y) → Gathering parents states set (with 64 heirs x) next
+  pub gathering-turn : (set heirs rest k x next : ℕ) → Gathering parents states set heirs rest → Taken 64 rest k next →
+      x ≡ from (nearestFrom parents states (k % 64)) 64 (λ y. y) → Gathering parents states set (with 64 heirs x) next
   gathering-turn set heirs rest k x next g t e =
       record {
         fits = t .fits;

@@ -15,24 +15,22 @@ use Rattle.rules.specs.Bench as rules
 use Rattle.rules.specs.Owners.{isAncestor, heir, isOwner, isAskerOrAncestor}
 use Rattle.rules.specs.Sound.{sound}
 use Rattle.rules.specs.Requests.{Request, ask}
-use Rattle.rules.specs.Answers.{Outcome, answerOf, step}
+use Rattle.rules.specs.Answers.{Outcome, answerOf, step, answered}
 use Rattle.rules.specs.ReadWrite.{readWrite, reading, writing}
 use Rattle.rules.specs.Reasons.{smallest, isRunningChild, child, blocks, blocker, named, ownsAsked, reasonFor, reasonOf}
 use Rattle.rules.proofs.Tests.{by-bool, any-cong}
-use Rattle.rules.proofs.Smallest.{smallest-is, smallest-cong}
+use Rattle.rules.proofs.Smallest.{smallest-cong}
 use Rattle.rules.proofs.Reasons.{acting, answer-row, nobody-accepted, nobody-above, offending-named, child-found, refused-asks, blocker-found}
-use Rattle.lines.specs.Lines.{answered}
-use Rattle.lines.specs.Arrays.{LineEnded}
-use Rattle.lines.specs.Feeding.{framed}
-use Rattle.views.specs.View.{setsOf, view}
-use Rattle.views.specs.Parts.{metFrom, nearestFrom}
-use Rattle.views.proofs.ViewLaws.{running-byte, child-byte, tree-sound, parents-sound}
-use Rattle.views.proofs.Lines.{met-in-line}
-use Rattle.views.proofs.Heirs.{nearest-heir}
-use Rattle.views.proofs.Steps.{step-refused}
-use Rattle.naming.specs.declared.Reason.{Reason}
+use Rattle.views.specs.Arrays.{LineEnded}
+use Rattle.rules.specs.Frames.{framed}
+use Rattle.views.specs.View.{setsOf, view, layout, arrays}
+use Rattle.views.specs.Tree.{metFrom, nearestFrom}
+use Rattle.tables.proofs.ViewLaws.{running-byte, child-byte, tree-sound, parents-sound}
+use Rattle.tables.proofs.Lines.{met-in-line}
+use Rattle.tables.proofs.Heirs.{nearest-heir}
+use Rattle.tables.proofs.Steps.{step-refused}
 use Rattle.naming.specs.Told.{told, nobodyFor, namedFor}
-use Rattle.naming.specs.Blocking.{heirOfSome, againstFrame, blocksIn, blockedBy, blockedIn, childWith, offendingIn, namedIn}
+use Rattle.naming.specs.Blocking.{heirOfSome, againstFrame, blocksIn, blockedIn, childWith, offendingIn, namedIn}
 use Rattle.naming.proofs.Frames.{modeOf, offending-framed, child-framed, asked-framed, is-request}
 
 module _ (b : rules.Bench) (q : Option Request) (n : ℕ) (e : n ≡ reasonOf readWrite b q .answer) where
@@ -106,12 +104,12 @@ module _ (parents states reads writes : List ℕ) (code x y n : ℕ) (e : n ≡ 
         any-cong 64 (λ k. member (getD (setsOf m reads writes) i 0) k && from (heir readWrite b k) false (λ z. eqb z h))
         (λ k. member (getD (setsOf m reads writes) i 0) k && from (nearestFrom parents states k) false (λ z. eqb z h))
         (λ k l. ap (λ o. member (getD (setsOf m reads writes) i 0) k && from o false (λ z. eqb z h))
-        (sym (nearest-heir parents states (tree-sound parents states reads writes ok) k l)))
+        (sym (nearest-heir 64 parents states (tree-sound layout (arrays parents states reads writes) ok) k l)))
 
     -- the asker's line is what is met going up from it
     line-same : (a h : ℕ) → a < 64 → isAskerOrAncestor readWrite b a h ≡ metFrom parents a h
     unfolding isAskerOrAncestor isAncestor
-    line-same a h l = sym (met-in-line parents (parents-sound parents states reads writes ok) a l h)
+    line-same a h l = sym (met-in-line 64 parents (parents-sound layout (arrays parents states reads writes) ok) a l h)
 
     -- the modes that conflict with the frame's
     conflicts-same : (owns : ℕ → Bool) → any 2 (λ held. readWrite .conflict (modeOf code) held && owns held) ≡ againstFrame code (owns reading) (owns writing)
@@ -195,16 +193,16 @@ module _ (parents states reads writes : List ℕ) (code x y n : ℕ) (e : n ≡ 
 -- ---- after the step
 
 -- the answer of a line's request is the reason's
-answered-reason : (b : rules.Bench) (q : Option Request) → answered b q .answer ≡ reasonOf readWrite b q .answer
+answered-reason : (b : rules.Bench) (q : Option Request) → answered readWrite b q .answer ≡ reasonOf readWrite b q .answer
 unfolding step reasonOf reasonFor
 answered-reason b none = refl
 answered-reason b (some r) = refl
 
 -- a refused request leaves the bench as it was
-refused-kept : (b : rules.Bench) (q : Option Request) → (answered b q .answer ≡ 0 → ⊥) → answered b q .next ≡ b
+refused-kept : (b : rules.Bench) (q : Option Request) → (answered readWrite b q .answer ≡ 0 → ⊥) → answered readWrite b q .next ≡ b
 unfolding step
 refused-kept b none h = refl
-refused-kept b (some r) h = ap (λ (o : Outcome). o .next) (sym (step-refused b r (answerOf readWrite b r) refl h))
+refused-kept b (some r) h = ap (λ (o : Outcome). o .next) (sym (step-refused readWrite b r (answerOf readWrite b r) refl h))
 
 -- Once a line has ended, whom its answer names can be looked for in the arrays that it left.
 pub told-after : {ok : Bool} {parents states reads writes : List ℕ} {answer : ℕ} {parents' states' reads' writes' : List ℕ} (code x y : ℕ) → LineEnded ok (framed code x y) parents states reads writes answer parents' states' reads' writes' → namedIn parents' states' (getD reads' (y % 128) 0) (getD writes' (y % 128) 0) code x y answer ≡ told (reasonOf readWrite (view parents states reads writes) (framed code x y))
@@ -221,7 +219,7 @@ told-after {parents = parents} {states = states} {reads = reads} {writes = write
     q : Option Request
     q = framed code x y
 
-    is : answer ≡ answered before q .answer
+    is : answer ≡ answered readWrite before q .answer
     is = ap (λ (o : Outcome). o .answer) (m .outcome)
 
     e : answer ≡ reasonOf readWrite before q .answer

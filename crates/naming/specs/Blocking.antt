@@ -8,7 +8,7 @@ use lib.ListN.{getD}
 use Rattle.sets.specs.Sets.{member}
 use Rattle.rules.specs.Tests.{if_then_else_, any, from}
 use Rattle.rules.specs.Reasons.{smallest}
-use Rattle.views.specs.Parts.{metFrom, nearestFrom}
+use Rattle.views.specs.Tree.{metFrom, nearestFrom}
 use Rattle.naming.specs.declared.Reason.{Reason}
 use Rattle.naming.specs.Told.{nobodyFor, namedFor}
 

@@ -1,7 +1,7 @@
 // Who blocks: the heirs of the numbers in an instrument's sets that are neither the asker nor an ancestor; and who is a running child.
 use crate::Reason;
-use crate::answers::NOT_GRANTED;
-use soundness::index::RUNNING;
+use marks::answers::NOT_GRANTED;
+use marks::states::RUNNING;
 ghost use mathlib.Core.Path.{_≡_};
 ghost use Prim.Native.Nat.{ℕ, _%_};
 ghost use Rattle.sets.specs.Sets.{member, union};
@@ -17,7 +17,7 @@ fn heirs_of<'a>(parents: &'a [u8; 64], states: &'a [u8; 64], set: u64) -> u64
     let mut rest = set;
     while rest != 0 {
         let k = sets::least(rest);
-        heirs = sets::with(heirs, ancestry::heir(parents, states, k));
+        heirs = sets::with(heirs, tree::heir(parents, states, k));
         rest = sets::without_least(rest);
     }
     heirs
@@ -46,7 +46,7 @@ pub(crate) fn blocked<'a>(
 {
     let reading = heirs_of(parents, states, readers);
     let writing = heirs_of(parents, states, writers);
-    let line = ancestry::line_of(parents, a);
+    let line = tree::line_of(parents, a);
     let blocker = sets::least(sets::difference(conflicting(code, reading, writing), line));
     Reason {
         answer: NOT_GRANTED,

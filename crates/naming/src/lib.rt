@@ -1,15 +1,14 @@
 // Whom an answer names (document 02, order 1): for a frame that got an answer, from the arrays that it left, and the line of text that says so. A refused
 // request leaves the record as it was, so that the reason can be looked for afterwards.
-mod answers;
 mod blocking;
 mod offending;
 pub mod text;
 
-use answers::ACCEPTED;
-use answers::HAS_RUNNING_CHILD;
-use answers::NOT_GRANTED;
 use blocking::blocked;
 use blocking::first_child;
+use marks::answers::ACCEPTED;
+use marks::answers::HAS_RUNNING_CHILD;
+use marks::answers::NOT_GRANTED;
 use offending::offending;
 ghost use mathlib.Core.Path.{_≡_};
 ghost use Rattle.naming.specs.Told.{nobodyFor, namedFor};

@@ -1,7 +1,7 @@
 // The number in a frame that offends.
-use crate::answers::NO_SUCH_ACTION;
-use crate::answers::NO_SUCH_INSTRUMENT;
-use crate::answers::NOT_RUNNING;
+use marks::answers::NO_SUCH_ACTION;
+use marks::answers::NO_SUCH_INSTRUMENT;
+use marks::answers::NOT_RUNNING;
 ghost use mathlib.Core.Path.{_≡_};
 ghost use Rattle.naming.specs.Blocking.{offendingIn};
 

@@ -1,6 +1,6 @@
 // Plays a trace: lines on standard input, one answer line for each on standard output. It starts from an empty bench; empty input gives empty output; it
 // ends with its input. Where a read fails, the lines before it are answered and a begun line is not played; where a write fails, it stops.
-use bench::Player;
+use play::Player;
 
 // The player after a turn, and whether there may be more to play.
 struct Played {

@@ -3,7 +3,7 @@ use mathlib.Core.Path.{_≡_, sym, _∙_}
 use Prim.Native.Nat.{ℕ}
 use Rattle.rules.specs.ReadWrite.{readWrite}
 use Rattle.rules.specs.Reasons.{reasonOf}
-use Rattle.lines.specs.Feeding.{framed}
+use Rattle.rules.specs.Frames.{framed}
 use Rattle.bench.specs.declared.Bench.{Bench}
 use Rattle.bench.specs.Record.{viewed}
 use Rattle.naming.specs.declared.Reason.{Reason}

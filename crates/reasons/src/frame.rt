@@ -3,7 +3,7 @@ use bench::Bench;
 ghost use mathlib.Core.Path.{_≡_};
 ghost use Rattle.rules.specs.ReadWrite.{readWrite};
 ghost use Rattle.rules.specs.Reasons.{reasonOf};
-ghost use Rattle.lines.specs.Feeding.{framed};
+ghost use Rattle.rules.specs.Frames.{framed};
 ghost use Rattle.bench.specs.Record.{viewed};
 
 // The frame is no request's.

@@ -8,7 +8,7 @@ use naming::named;
 ghost use mathlib.Core.Path.{_≡_};
 ghost use Rattle.rules.specs.ReadWrite.{readWrite};
 ghost use Rattle.rules.specs.Reasons.{reasonOf};
-ghost use Rattle.lines.specs.Feeding.{framed};
+ghost use Rattle.rules.specs.Frames.{framed};
 ghost use Rattle.bench.specs.Record.{viewed};
 ghost use Rattle.naming.specs.Told.{told};
 

@@ -7,6 +7,7 @@
 -- Family: an action and its descendants, told from the parent's family.
 -- Accepted: what an answer 0 implies, for each request.
 -- Smallest: the smallest number of which a test holds.
+-- Frames: what a frame's code says of its request.
 pub mod Tests
 pub mod Facts
 pub mod Walks
@@ -15,6 +16,7 @@ pub mod Pigeonhole
 pub mod Family
 pub mod Accepted
 pub mod Smallest
+pub mod Frames
 -- Theorems about the rules:
 -- Kept: every request on a sound bench leaves a sound bench.
 -- Asking: an accepted read or write enters the set, and asking again gives the same answer and the same bench.

@@ -8,6 +8,7 @@
 -- Where several apply: 7 first, then 1, 2, 3, 4, 5, 6.
 use mathlib.Core.Bool.{Bool, true, false, not, _||_}
 use mathlib.Core.List.{List, [], _∷_}
+use mathlib.Core.Option.{Option, none, some}
 use Prim.Native.Nat.{ℕ}
 use lib.Dec.{eqb, leb}
 use Rattle.rules.specs.Tests.{if_then_else_}
@@ -65,13 +66,22 @@ pub record Outcome : Type 0 where
   pub answer : ℕ
   pub next : Bench
 
--- the answer with what it hands back: 0 the next record, any other the record as it came
+-- this answer means that the request was accepted
+abbrev pub accepts : ℕ → Bool
+accepts a = eqb a 0
+
+-- the answer with what it hands back: where it accepts the next record, and else the record as it came
 abbrev pub outcome : Shape → Bench → Request → ℕ → Outcome
-outcome sh b r a = record { answer = a; next = if eqb a 0 then effect sh b r else b }
+outcome sh b r a = record { answer = a; next = if accepts a then effect sh b r else b }
 
 -- One total step.
 unfoldable pub step : Shape → Bench → Request → Outcome
 step sh b r = outcome sh b r (answerOf sh b r)
+
+-- What a line does: 8 and nothing changes where it has no request, else as its request.
+abbrev pub answered : Shape → Bench → Option Request → Outcome
+answered sh b none = record { answer = 8; next = b }
+answered sh b (some r) = step sh b r
 
 -- the answers to a list of requests, each on the bench that the one before it left
 unfoldable pub answers : Shape → Bench → List Request → List ℕ

@@ -7,6 +7,7 @@ pub mod Answers
 pub mod Reasons
 pub mod SetForm
 pub mod ReadWrite
+pub mod Frames
 pub mod Sessions
 pub mod Plain
 pub mod PlainReasons

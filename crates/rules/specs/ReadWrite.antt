@@ -2,6 +2,7 @@
 use mathlib.Core.Bool.{Bool, not, _&&_}
 use Prim.Native.Nat.{ℕ}
 use lib.Dec.{eqb}
+use Rattle.rules.specs.Tests.{if_then_else_}
 use Rattle.rules.specs.Bench.{Shape}
 use Rattle.rules.specs.Requests.{Request, ask}
 
@@ -11,6 +12,10 @@ reading = 0
 
 abbrev pub writing : ℕ
 writing = 1
+
+-- the mode that is asked for, by whether it is a write
+abbrev pub modeOf : Bool → ℕ
+modeOf isWrite = if isWrite then writing else reading
 
 -- Read conflicts with write, and write with both.
 abbrev pub readWrite : Shape

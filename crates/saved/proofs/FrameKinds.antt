@@ -10,10 +10,10 @@ use borrow.Author.Tests.{ltb-true, lt-ltb, eqb-true, eq-eqb, ne-eqb, not-true}
 use lib.Dec.{eqb, ltb}
 use lib.ListN.{length, drop}
 use Rattle.rules.proofs.Tests.{by-bool, by-or, clash, refuted, and-left, and-right}
-use Rattle.saved.specs.Text.{parentDigits, actionFrame, instrumentFrame}
-use Rattle.saved.specs.Shape.{numberAt, actionAt, instrumentAt, parentByte}
+use Rattle.saved.specs.Text.{frame, parentDigits, actionFrame, instrumentFrame}
+use Rattle.saved.specs.Shape.{numberAt, headAt, actionAt, instrumentAt, parentByte}
 use Rattle.saved.proofs.Hex.{number-fits}
-use Rattle.saved.proofs.Frames.{frame, headAt, HeadRead, frame-long, frame-read, head-other, head-none, frame-written}
+use Rattle.saved.proofs.Frames.{HeadRead, frame-long, frame-read, head-other, head-none, frame-written}
 
 -- ---- a kind of frame: the element x of a first array and y of a second one make a frame, and a frame is read into both
 

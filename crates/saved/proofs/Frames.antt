@@ -10,18 +10,11 @@ use borrow.Author.Tests.{eqb-true, eq-eqb}
 use lib.Dec.{eqb}
 use lib.ListN.{length, getD, drop, length-append}
 use Rattle.rules.proofs.Tests.{refuted, and-left, and-right}
-use Rattle.saved.specs.Text.{hexOf}
-use Rattle.saved.specs.Shape.{digitsAt, numberAt, frameAt}
+use Rattle.saved.specs.Text.{hexOf, frame}
+use Rattle.saved.specs.Shape.{digitsAt, numberAt, frameAt, headAt}
 use Rattle.saved.proofs.Hex.{past, byte-read, byte-stands, length-hex, hex-read, number-read, digits-written, digits-join, digits-apart}
 
--- two digits of code, two of number, two fields of n digits
-abbrev pub frame : ℕ → ℕ → ℕ → ℕ → ℕ → List ℕ
-frame n code k x y = hexOf 2 code ++ (hexOf 2 k ++ (hexOf n x ++ (hexOf n y ++ (10 ∷ []))))
-
--- such a frame with this code and number stands there
-abbrev pub headAt : ℕ → ℕ → List ℕ → ℕ → ℕ → Bool
-headAt n code text at k = frameAt text at (4 + n + n) && eqb (numberAt text at 2) code && eqb (numberAt text (at + 2) 2) k
-
+-- the length of a frame
 pub frame-long : (n code k x y : ℕ) → length (frame n code k x y) ≡ 5 + n + n
 frame-long n code k x y = simp (length-append, length-hex) (omega arith)
 

@@ -20,10 +20,10 @@ use Rattle.rules.proofs.Facts.{sound-facts}
 use Rattle.bench.specs.declared.Bench.{Bench}
 use Rattle.views.specs.View.{stateOf, parentOf}
 use Rattle.bench.specs.Record.{viewed}
-use Rattle.views.proofs.Bytes.{none-byte}
+use Rattle.tables.proofs.Bytes.{none-byte}
 use Rattle.bench.proofs.Unique.{Fits}
 use Rattle.saved.specs.Text.{hexOf, actionFrame, instrumentFrame, actionCell, instrumentCell, cellsFrom, textOf}
-use Rattle.saved.specs.Shape.{actionAt, Taken, actionsIn, instrumentsIn, recordIn}
+use Rattle.saved.specs.Shape.{actionAt, noneTaken, actionsIn, instrumentsIn, recordIn}
 use Rattle.saved.specs.Saved.{savedAs, bufferAfter, loadedFrom, loadOf}
 use Rattle.saved.proofs.FrameKinds.{ShapedAction, ShapedSets, action, action-laws, instrument, instrument-laws, frame-other, frame-none}
 use Rattle.saved.proofs.Rows.{cellOf, Untaken, row-refutes, row-short, row-said, taken-row, taken-length, taken-shaped}
@@ -122,7 +122,7 @@ zeros-read zero j = refl
 zeros-read (suc n) zero = refl
 zeros-read (suc n) (suc j) = zeros-read n j
 
-zeros-untaken : (n at : ℕ) → Untaken n 0 (record { at = at; first = replicate n 0; second = replicate n 0 })
+zeros-untaken : (n at : ℕ) → Untaken n 0 (noneTaken n at)
 zeros-untaken n at =
     record {
       firstLong = rw (length-replicate {A = ℕ} n 0) (omega arith);
@@ -142,9 +142,9 @@ readFrom text =
 read-writes : (text : List ℕ) → text ≡ textOf (readFrom text) ++ drop (instrumentsIn text (actionsIn text .at) .at) text
 unfolding actionsIn instrumentsIn
 read-writes text =
-    taken-row action action-laws text 64 0 (record { at = 0; first = replicate 64 0; second = replicate 64 0 }) (zeros-untaken 64 0)
+    taken-row action action-laws text 64 0 (noneTaken 64 0) (zeros-untaken 64 0)
     ∙ ap (λ l. actionRow b ++ l)
-    (taken-row instrument instrument-laws text 128 0 (record { at = between; first = replicate 128 0; second = replicate 128 0 }) (zeros-untaken 128 between))
+    (taken-row instrument instrument-laws text 128 0 (noneTaken 128 between) (zeros-untaken 128 between))
     ∙ sym (ap (λ l. l ++ drop end text) (text-rows b) ∙ append-assoc (actionRow b) (instrumentRow b) (drop end text))
   where
     b : Bench
@@ -181,29 +181,23 @@ said-shaped text b e = rw (← said-read text b e .0) (record { fits = fits; act
     between : ℕ
     between = actionsIn text .at
 
-    start : Taken
-    start = record { at = 0; first = replicate 64 0; second = replicate 64 0 }
-
-    middle : Taken
-    middle = record { at = between; first = replicate 128 0; second = replicate 128 0 }
-
     actions : (k : ℕ) → ShapedAction (getD (readFrom text .parents) k 0) (getD (readFrom text .states) k 0)
     actions =
-        taken-shaped action action-laws text 64 0 start (zeros-untaken 64 0)
+        taken-shaped action action-laws text 64 0 (noneTaken 64 0) (zeros-untaken 64 0)
         (λ j. rw (zeros-read 64 j) (record { parentKnown = omega arith; stateKnown = omega arith; freeHasNoParent = λ z. refl }))
 
     sets : (i : ℕ) → ShapedSets (getD (readFrom text .reads) i 0) (getD (readFrom text .writes) i 0)
     sets =
-        taken-shaped instrument instrument-laws text 128 0 middle (zeros-untaken 128 between)
+        taken-shaped instrument instrument-laws text 128 0 (noneTaken 128 between) (zeros-untaken 128 between)
         (λ j. rw (zeros-read 128 j) (record { readsFit = omega arith; writesFit = omega arith }))
 
     fits : Fits (readFrom text)
     fits =
         record {
-          parentsLong = taken-length action action-laws text 64 0 start .0 ∙ length-replicate {A = ℕ} 64 0;
-          statesLong = taken-length action action-laws text 64 0 start .1 ∙ length-replicate {A = ℕ} 64 0;
-          readsLong = taken-length instrument instrument-laws text 128 0 middle .0 ∙ length-replicate {A = ℕ} 128 0;
-          writesLong = taken-length instrument instrument-laws text 128 0 middle .1 ∙ length-replicate {A = ℕ} 128 0;
+          parentsLong = taken-length action action-laws text 64 0 (noneTaken 64 0) .0 ∙ length-replicate {A = ℕ} 64 0;
+          statesLong = taken-length action action-laws text 64 0 (noneTaken 64 0) .1 ∙ length-replicate {A = ℕ} 64 0;
+          readsLong = taken-length instrument instrument-laws text 128 0 (noneTaken 128 between) .0 ∙ length-replicate {A = ℕ} 128 0;
+          writesLong = taken-length instrument instrument-laws text 128 0 (noneTaken 128 between) .1 ∙ length-replicate {A = ℕ} 128 0;
           readsFit = λ i l. sets i .readsFit;
           writesFit = λ i l. sets i .writesFit;
         }

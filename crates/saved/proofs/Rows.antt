@@ -13,7 +13,7 @@ use lib.Seq.{take-suc, take-all, length-take-le, append-snoc, set-at, getD-set-s
 use Rattle.rules.specs.Tests.{if_then_else_}
 use Rattle.rules.proofs.Tests.{by-bool}
 use Rattle.saved.specs.Text.{cellsFrom}
-use Rattle.saved.specs.Shape.{Taken, takeFrom}
+use Rattle.saved.specs.Shape.{Taken, entered, takeFrom, noneTaken}
 use Rattle.saved.proofs.Hex.{past}
 use Rattle.saved.proofs.FrameKinds.{Kind, Laws, frameOf, sizeOf, frame-length, frame-reads, frame-writes, frame-other}
 
@@ -24,13 +24,7 @@ cellOf K xs ys k = if K .bare (getD xs k 0) (getD ys k 0) then [] else frameOf K
 -- the frame of number k, if it stands there, taken into both arrays
 abbrev pub takeOf : Kind → List ℕ → ℕ → Taken → Taken
 takeOf K text k t =
-    if K .test text (t .at) k
-    then record {
-      at = t .at + sizeOf K;
-      first = set (t .first) k (K .first text (t .at));
-      second = set (t .second) k (K .second text (t .at));
-    }
-    else t
+    if K .test text (t .at) k then entered (sizeOf K) k (K .first text (t .at)) (K .second text (t .at)) t else t
 
 -- ---- an array filled up to k
 
@@ -120,7 +114,7 @@ module _ (K : Kind) (laws : Laws K) (xs ys : List ℕ) where
         ∙ rw (length-append cell cells, add-assoc at (length cell) (length cells))
 
     -- A whole row is taken as the arrays that it was written from.
-    pub row-said : (n at : ℕ) → n ≡ length xs → drop at text ≡ cellsFrom (cellOf K xs ys) n 0 ++ rest → takeFrom (takeOf K text) n 0 (record { at = at; first = replicate n 0; second = replicate n 0 }) ≡ record { at = at + length (cellsFrom (cellOf K xs ys) n 0); first = xs; second = ys }
+    pub row-said : (n at : ℕ) → n ≡ length xs → drop at text ≡ cellsFrom (cellOf K xs ys) n 0 ++ rest → takeFrom (takeOf K text) n 0 (noneTaken n at) ≡ record { at = at + length (cellsFrom (cellOf K xs ys) n 0); first = xs; second = ys }
     row-said n at size e = row-taken n 0 at (zero-add n ∙ size) e
 
 -- ---- what is taken, written

@@ -16,7 +16,7 @@ use Rattle.bench.specs.declared.Bench.{Bench}
 use Rattle.bench.specs.Record.{viewed}
 use Rattle.bench.specs.Plays.{IsEmpty}
 use Rattle.bench.proofs.Unique.{Fits, zeros-fit, empty-unique}
-use Rattle.views.proofs.Stores.{empty-shown}
+use Rattle.views.proofs.Words.{empty-shown}
 use Rattle.saved.specs.declared.Saved.{Saved}
 use Rattle.saved.specs.declared.Loaded.{Loaded}
 use Rattle.saved.specs.Text.{textOf}

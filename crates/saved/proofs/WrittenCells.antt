@@ -1,18 +1,19 @@
 -- What the numbers or the instruments add to the text, written and counted one at a time.
-use mathlib.Core.Path.{_≡_, refl, sym, ap}
-use mathlib.Core.Bool.{Bool, true, false, _&&_}
+use mathlib.Core.Path.{_≡_, refl, sym, _∙_, ap}
+use mathlib.Core.Bool.{Bool, true, false}
 use mathlib.Core.List.{List, [], _++_}
-use Prim.Native.Nat.{ℕ, suc, _+_, _-_, _<_, _≤_}
-use native.Mathlib.Nat.{add-zero}
+use Prim.Native.Nat.{ℕ, suc, _+_, _-_, _*_, _<_, _≤_}
+use native.Mathlib.Nat.{add-zero, suc-mul}
 use native.Mathlib.Numerals.{add-one}
 use native.Mathlib.Omega.{arith}
-use lib.Dec.{eqb}
 use lib.ListN.{length, getD, length-append}
 use lib.Seq.{sets, length-sets}
 use Rattle.rules.specs.Tests.{if_then_else_}
-use Rattle.saved.specs.Text.{parentDigits, actionFrame, instrumentFrame, actionCell, instrumentCell, cellsFrom}
+use Rattle.rules.proofs.Tests.{by-bool}
+use Rattle.saved.specs.Text.{frame, parentDigits, actionFrame, instrumentFrame, isFree, isUnused, actionCell, instrumentCell, cellsFrom}
 use Rattle.saved.specs.Written.{Written}
-use Rattle.saved.proofs.WrittenFrames.{sets-append, length-frame}
+use Rattle.saved.proofs.WrittenFrames.{sets-append}
+use Rattle.saved.proofs.Frames.{frame-long}
 
 -- ---- cells in a row
 
@@ -26,46 +27,69 @@ module _ (cell : ℕ → List ℕ) (n : ℕ) where
   unfolding cellsFrom
   cells-done k e = let z : n - k ≡ 0 = omega arith in rw z
 
+-- ---- cells, counted
+
+-- a cell is empty where it is bare, and else has so many bytes
+abbrev pub Sized : (ℕ → List ℕ) → (ℕ → Bool) → ℕ → Type 0
+Sized cell bare size = (k : ℕ) → length (cell k) ≡ (if bare k then 0 else size)
+
 -- The cells below k of n are counted: their length and that of the others make that of all.
-pub record Counted (cell : ℕ → List ℕ) (n k total : ℕ) : Type 0 where
-  pub sum : total + length (cellsFrom cell (n - k) k) ≡ length (cellsFrom cell n 0)
+pub record Counted (bare : ℕ → Bool) (size n k total : ℕ) : Type 0 where
+  pub passed : k ≤ n
+  pub few : total ≤ k * size
+  pub sum : (cell : ℕ → List ℕ) → Sized cell bare size → total + length (cellsFrom cell (n - k) k) ≡ length (cellsFrom cell n 0)
+
+module _ {bare : ℕ → Bool} {size n : ℕ} where
+  pub none-counted : Counted bare size n 0 0
+  none-counted =
+      let e : n - 0 ≡ n = omega arith in record { passed = omega arith; few = omega arith; sum = λ cell sized. rw e (omega arith) }
+
+  module _ {k total : ℕ} (h : Counted bare size n k total) where
+    pub one-counted : {more : ℕ} → k < n → (more ≡ (if bare k then 0 else size)) × (more ≤ size) → Counted bare size n (k + 1) (total + more)
+    one-counted {more} l said =
+        let few : total ≤ k * size = h .few in
+        record {
+          passed = omega arith;
+          few = rw (add-one, suc-mul) (omega arith);
+          sum = λ cell sized.
+              let before = h .sum cell sized in
+              let here : length (cell k) ≡ more = sized k ∙ sym (said .0) in
+              let split = simp length-append at (ap length (cells-next cell n k l)) in omega arith;
+        }
+
+    -- all cells are counted
+    pub all-counted : n ≤ k → (total ≤ n * size) × ((cell : ℕ → List ℕ) → Sized cell bare size → total ≡ length (cellsFrom cell n 0))
+    all-counted l =
+        let e : k ≡ n = omega arith in
+        (rw e at (h .few), λ cell sized. let sum = rw (cells-done cell n k e) at (h .sum cell sized) in omega arith)
+
+-- ---- cells, written
 
 -- The cells below k of n are written, from `from` on: the others, written from `at` on, make all of the text.
 pub record CellsLeft (cell : ℕ → List ℕ) (n : ℕ) (before : List ℕ) (from k : ℕ) (out : List ℕ) (at : ℕ) : Type 0 where
+  pub passed : k ≤ n
   pub rest : sets out at (cellsFrom cell (n - k) k) ≡ sets before from (cellsFrom cell n 0)
   pub ends : at + length (cellsFrom cell (n - k) k) ≡ from + length (cellsFrom cell n 0)
   pub long : length out ≡ length before
 
-module _ {cell : ℕ → List ℕ} {n : ℕ} where
-  pub none-counted : Counted cell n 0 0
-  none-counted = let e : n - 0 ≡ n = omega arith in record { sum = rw e (omega arith) }
+module _ {cell : ℕ → List ℕ} {n : ℕ} {before : List ℕ} {from : ℕ} where
+  pub all-left : CellsLeft cell n before from 0 before from
+  all-left = let e : n - 0 ≡ n = omega arith in record { passed = omega arith; rest = rw e; ends = rw e; long = refl }
 
-  pub one-counted : {k total more : ℕ} → Counted cell n k total → k < n → length (cell k) ≡ more → Counted cell n (k + 1) (total + more)
-  one-counted {k} {total} {more} h l e =
-      let before : total + length (cellsFrom cell (n - k) k) ≡ length (cellsFrom cell n 0) = h .sum in
-      let split = simp length-append at (ap length (cells-next cell n k l)) in record { sum = omega arith }
-
-  pub all-counted : {k total : ℕ} → Counted cell n k total → k ≡ n → total ≡ length (cellsFrom cell n 0)
-  all-counted {k} {total} h e = let sum = rw (cells-done cell n k e) at (h .sum) in omega arith
-
-  module _ {before : List ℕ} {from : ℕ} where
-    pub all-left : CellsLeft cell n before from 0 before from
-    all-left = let e : n - 0 ≡ n = omega arith in record { rest = rw e; ends = rw e; long = refl }
-
+  module _ {k : ℕ} {out : List ℕ} {at : ℕ} (h : CellsLeft cell n before from k out at) where
     -- the cell of k has room
-    pub room-left : {k : ℕ} {out : List ℕ} {at : ℕ}
-        → CellsLeft cell n before from k out at → k < n → from + length (cellsFrom cell n 0) ≤ length before → at + length (cell k) ≤ length out
-    room-left {k} {out} {at} h l room =
+    pub room-left : k < n → from + length (cellsFrom cell n 0) ≤ length before → at + length (cell k) ≤ length out
+    room-left l room =
         let ends : at + length (cellsFrom cell (n - k) k) ≡ from + length (cellsFrom cell n 0) = h .ends in
         let long : length out ≡ length before = h .long in
         let split = simp length-append at (ap length (cells-next cell n k l)) in omega arith
 
     -- the cell of k is written
-    pub one-less : {k : ℕ} {out : List ℕ} {at : ℕ} {after : List ℕ} {next : ℕ}
-        → CellsLeft cell n before from k out at → k < n → Written out at (cell k) after next → CellsLeft cell n before from (k + 1) after next
-    one-less {k} {out} {at} {after} {next} h l w =
+    pub one-less : {after : List ℕ} {next : ℕ} → k < n → Written out at (cell k) after next → CellsLeft cell n before from (k + 1) after next
+    one-less {after} {next} l w =
         let split = cells-next cell n k l in
         record {
+          passed = omega arith;
           rest = rw (w .stored, w .ends, ← sets-append, ← split) (h .rest);
           ends =
               (let ends : at + length (cellsFrom cell (n - k) k) ≡ from + length (cellsFrom cell n 0) = h .ends in
@@ -75,31 +99,33 @@ module _ {cell : ℕ → List ℕ} {n : ℕ} where
         }
 
     -- all cells are written
-    pub none-left : {k : ℕ} {out : List ℕ} {at : ℕ} → CellsLeft cell n before from k out at → k ≡ n → Written before from (cellsFrom cell n 0) out at
-    none-left {k} {out} {at} h e =
-        let done = cells-done cell n k e in
+    pub none-left : n ≤ k → Written before from (cellsFrom cell n 0) out at
+    none-left l =
+        let passed : k ≤ n = h .passed in
+        let done = cells-done cell n k (omega arith) in
         record { stored = rw done at (h .rest); ends = (let ends = rw done at (h .ends) in omega arith) }
 
--- ---- one cell: nothing, or a frame
+-- ---- one cell: nothing where it is bare, else a frame
 
-pub nothing-written : {l : List ℕ} {at : ℕ} {nothing : Bool} (frame : List ℕ) → nothing ≡ true → Written l at (if nothing then [] else frame) l at
-nothing-written {l} {at} frame e = rw e (record { stored = refl; ends = sym (add-zero at) })
+pub bare-written : {l : List ℕ} {at : ℕ} {bare : Bool} (frame : List ℕ) → bare ≡ true → Written l at (if bare then [] else frame) l at
+bare-written {l} {at} frame e = rw e (record { stored = refl; ends = sym (add-zero at) })
 
-pub frame-written : {l : List ℕ} {at : ℕ} {nothing : Bool} (frame : List ℕ) {after : List ℕ} {next : ℕ}
-    → nothing ≡ false → after ≡ sets l at frame → next ≡ at + length frame → Written l at (if nothing then [] else frame) after next
-frame-written frame e stored ends = rw e (record { stored = stored; ends = ends })
+pub frame-written : {l : List ℕ} {at : ℕ} {bare : Bool} (frame : List ℕ) {after : List ℕ} {next : ℕ}
+    → bare ≡ false → Written l at frame after next → Written l at (if bare then [] else frame) after next
+frame-written frame e w = rw e w
 
-pub length-cell : (nothing : Bool) (frame : List ℕ) → length (if nothing then [] else frame) ≡ (if nothing then 0 else length frame)
-length-cell true frame = refl
-length-cell false frame = refl
+module _ (bare : Bool) (w code k x y : ℕ) where
+  pub cell-length : length (if bare then [] else frame w code k x y) ≡ (if bare then 0 else (5 + w + w))
+  cell-length = by-bool bare (λ e. rw e) (λ e. rw e (frame-long w code k x y))
 
-pub length-action : (parents states : List ℕ) (k : ℕ) → length (actionCell parents states k) ≡ (if eqb (getD states k 0) 0 then 0 else 9)
+  -- where there is room for a cell that isn't bare, there is room for its frame
+  pub frame-room : (at room : ℕ) → bare ≡ false → at + length (if bare then [] else frame w code k x y) ≤ room → at + (5 + w + w) ≤ room
+  frame-room at room e h = rw (cell-length, e) at h
+
+pub action-sized : (parents states : List ℕ) → Sized (actionCell parents states) (isFree states) 9
 unfolding actionCell actionFrame
-length-action parents states k =
-    rw (length-cell (eqb (getD states k 0) 0), length-frame 2 0x11 k (getD states k 0) (parentDigits (getD parents k 0)))
+action-sized parents states k = cell-length (isFree states k) 2 0x11 k (getD states k 0) (parentDigits (getD parents k 0))
 
-pub length-instrument : (reads writes : List ℕ) (i : ℕ)
-    → length (instrumentCell reads writes i) ≡ (if eqb (getD reads i 0) 0 && eqb (getD writes i 0) 0 then 0 else 37)
+pub instrument-sized : (reads writes : List ℕ) → Sized (instrumentCell reads writes) (isUnused reads writes) 37
 unfolding instrumentCell instrumentFrame
-length-instrument reads writes i =
-    rw (length-cell (eqb (getD reads i 0) 0 && eqb (getD writes i 0) 0), length-frame 16 0x12 i (getD reads i 0) (getD writes i 0))
+instrument-sized reads writes i = cell-length (isUnused reads writes i) 16 0x12 i (getD reads i 0) (getD writes i 0)

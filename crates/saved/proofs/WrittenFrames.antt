@@ -1,13 +1,15 @@
 -- A run of writes in a row, and the frame that they make.
 use mathlib.Core.Path.{_≡_}
 use mathlib.Core.List.{List, [], _∷_, _++_}
-use Prim.Native.Nat.{ℕ, suc, _+_, _*_}
+use Prim.Native.Nat.{ℕ, suc, _+_}
 use native.Mathlib.Nat.{add-zero}
 use native.Mathlib.Omega.{arith}
-use lib.ListN.{length, set, length-append}
+use lib.ListN.{length, set}
 use lib.Seq.{sets}
-use Rattle.saved.specs.Text.{hexOf}
+use Rattle.saved.specs.Text.{hexOf, frame}
+use Rattle.saved.specs.Written.{Written}
 use Rattle.saved.proofs.Hex.{length-hex}
+use Rattle.saved.proofs.Frames.{frame-long}
 
 -- one text behind another
 pub sets-append : (l : List ℕ) (at : ℕ) (xs ys : List ℕ) → sets l at (xs ++ ys) ≡ sets (sets l at xs) (at + length xs) ys
@@ -19,16 +21,14 @@ sets-append l at (x ∷ xs) ys =
 pub number-first : (l : List ℕ) (at n x : ℕ) (ys : List ℕ) → sets l at (hexOf n x ++ ys) ≡ sets (sets l at (hexOf n x)) (at + n) ys
 number-first l at n x ys = rw (sets-append, length-hex)
 
--- the length of a frame
-pub length-frame : (w kind number first second : ℕ)
-    → length (hexOf 2 kind ++ (hexOf 2 number ++ (hexOf w first ++ (hexOf w second ++ (10 ∷ []))))) ≡ 2 * w + 5
-length-frame w kind number first second = simp (length-append, length-hex) (omega arith)
-
 -- four numbers in a row and 0a behind them
 pub frame-stored : (l : List ℕ) (at w kind number first second : ℕ) {l1 l2 l3 l4 : List ℕ}
     → l1 ≡ sets l at (hexOf 2 kind) → l2 ≡ sets l1 (at + 2) (hexOf 2 number) → l3 ≡ sets l2 (at + 4) (hexOf w first)
     → l4 ≡ sets l3 (at + 4 + w) (hexOf w second)
-    → set l4 (at + 4 + w + w) 10 ≡ sets l at (hexOf 2 kind ++ (hexOf 2 number ++ (hexOf w first ++ (hexOf w second ++ (10 ∷ [])))))
+    → Written l at (frame w kind number first second) (set l4 (at + 4 + w + w) 10) (at + 4 + w + w + 1)
 frame-stored l at w kind number first second {l1} {l2} {l3} {l4} e1 e2 e3 e4 =
     let four : at + 2 + 2 ≡ at + 4 = omega arith in
-    rw (number-first l at 2, ← e1, number-first l1 (at + 2) 2, ← e2, four, number-first l2 (at + 4) w, ← e3, number-first l3 (at + 4 + w) w, ← e4)
+    record {
+      stored = rw (number-first l at 2, ← e1, number-first l1 (at + 2) 2, ← e2, four, number-first l2 (at + 4) w, ← e3, number-first l3 (at + 4 + w) w, ← e4);
+      ends = rw (frame-long w kind number first second) (omega arith);
+    }

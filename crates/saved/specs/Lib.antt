@@ -2,3 +2,4 @@ pub mod Text
 pub mod Shape
 pub mod Saved
 pub mod Written
+pub mod Fields

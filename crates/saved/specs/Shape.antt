@@ -23,22 +23,21 @@ numberAt text at (suc n) = numberAt text at n * 16 + digitOf (getD text (at + n)
 abbrev pub frameAt : List ℕ → ℕ → ℕ → Bool
 frameAt text at n = digitsAt text at n && eqb (getD text (at + n) 0) 10
 
+-- a frame of this code and number, with two values of w digits, stands there
+abbrev pub headAt : ℕ → ℕ → List ℕ → ℕ → ℕ → Bool
+headAt w code text at k = frameAt text at (4 + w + w) && eqb (numberAt text at 2) code && eqb (numberAt text (at + 2) 2) k
+
 -- The frame of action k stands there: eight digits; 11; k; a state 01 or 02; a parent below 64, or ff.
 unfoldable pub actionAt : List ℕ → ℕ → ℕ → Bool
 actionAt text at k =
-    frameAt text at 8
-    && eqb (numberAt text at 2) 0x11
-    && eqb (numberAt text (at + 2) 2) k
+    headAt 2 0x11 text at k
     && (eqb (numberAt text (at + 4) 2) 1 || eqb (numberAt text (at + 4) 2) 2)
     && (ltb (numberAt text (at + 6) 2) 64 || eqb (numberAt text (at + 6) 2) 0xff)
 
 -- The frame of instrument i stands there: 36 digits; 12; i; two sets that are not both empty.
 unfoldable pub instrumentAt : List ℕ → ℕ → ℕ → Bool
 instrumentAt text at i =
-    frameAt text at 36
-    && eqb (numberAt text at 2) 0x12
-    && eqb (numberAt text (at + 2) 2) i
-    && not (eqb (numberAt text (at + 4) 16) 0 && eqb (numberAt text (at + 20) 16) 0)
+    headAt 16 0x12 text at i && not (eqb (numberAt text (at + 4) 16) 0 && eqb (numberAt text (at + 20) 16) 0)
 
 -- a parent's byte in the record, from its digits in the text
 abbrev pub parentByte : ℕ → ℕ
@@ -50,39 +49,35 @@ pub record Taken : Type 0 where
   pub first : List ℕ
   pub second : List ℕ
 
+-- a frame of so many bytes is passed, and the two elements of number k that it says stand in the arrays
+abbrev pub entered : ℕ → ℕ → ℕ → ℕ → Taken → Taken
+entered size k x y t = record { at = t .at + size; first = set (t .first) k x; second = set (t .second) k y }
+
 -- the frame of action k, if it stands there: parents and states with what it says
 abbrev pub takeAction : List ℕ → ℕ → Taken → Taken
 takeAction text k t =
-    if actionAt text (t .at) k
-    then record {
-      at = t .at + 9;
-      first = set (t .first) k (parentByte (numberAt text (t .at + 6) 2));
-      second = set (t .second) k (numberAt text (t .at + 4) 2);
-    }
-    else t
+    if actionAt text (t .at) k then entered 9 k (parentByte (numberAt text (t .at + 6) 2)) (numberAt text (t .at + 4) 2) t else t
 
 -- the frame of instrument i, if it stands there: read and write sets with what it says
 abbrev pub takeInstrument : List ℕ → ℕ → Taken → Taken
 takeInstrument text i t =
-    if instrumentAt text (t .at) i
-    then record {
-      at = t .at + 37;
-      first = set (t .first) i (numberAt text (t .at + 4) 16);
-      second = set (t .second) i (numberAt text (t .at + 20) 16);
-    }
-    else t
+    if instrumentAt text (t .at) i then entered 37 i (numberAt text (t .at + 4) 16) (numberAt text (t .at + 20) 16) t else t
 
 -- n of them, from number k on
 unfoldable pub takeFrom : (ℕ → Taken → Taken) → ℕ → ℕ → Taken → Taken
 takeFrom take zero k t = t
 takeFrom take (suc n) k t = takeFrom take n (suc k) (take k t)
 
+-- nothing is taken yet of n numbers, from this place of the text on
+abbrev pub noneTaken : ℕ → ℕ → Taken
+noneTaken n at = record { at = at; first = replicate n 0; second = replicate n 0 }
+
 -- the frames of actions from the text's start, and those of instruments behind them
 unfoldable pub actionsIn : List ℕ → Taken
-actionsIn text = takeFrom (takeAction text) 64 0 (record { at = 0; first = replicate 64 0; second = replicate 64 0 })
+actionsIn text = takeFrom (takeAction text) 64 0 (noneTaken 64 0)
 
 unfoldable pub instrumentsIn : List ℕ → ℕ → Taken
-instrumentsIn text at = takeFrom (takeInstrument text) 128 0 (record { at = at; first = replicate 128 0; second = replicate 128 0 })
+instrumentsIn text at = takeFrom (takeInstrument text) 128 0 (noneTaken 128 at)
 
 -- The record that a well-shaped text says; none where something is left over.
 unfoldable pub recordIn : List ℕ → Option Bench

@@ -19,22 +19,31 @@ abbrev pub parentDigits : ℕ → ℕ
 parentDigits zero = 0xff
 parentDigits (suc p) = p
 
+-- a frame: two digits of code, two of number, two values of w digits each, and 0a
+abbrev pub frame : ℕ → ℕ → ℕ → ℕ → ℕ → List ℕ
+frame w code k x y = hexOf 2 code ++ (hexOf 2 k ++ (hexOf w x ++ (hexOf w y ++ (10 ∷ []))))
+
 -- 11 nn ss pp
 unfoldable pub actionFrame : ℕ → ℕ → ℕ → List ℕ
-actionFrame k state parent = hexOf 2 0x11 ++ (hexOf 2 k ++ (hexOf 2 state ++ (hexOf 2 (parentDigits parent) ++ (10 ∷ []))))
+actionFrame k state parent = frame 2 0x11 k state (parentDigits parent)
 
 -- 12 ii, 16 digits of read set, 16 digits of write set
 unfoldable pub instrumentFrame : ℕ → ℕ → ℕ → List ℕ
-instrumentFrame i reads writes = hexOf 2 0x12 ++ (hexOf 2 i ++ (hexOf 16 reads ++ (hexOf 16 writes ++ (10 ∷ []))))
+instrumentFrame i reads writes = frame 16 0x12 i reads writes
+
+-- number k is free, and instrument i has both sets empty: the text has no frame of it
+abbrev pub isFree : List ℕ → ℕ → Bool
+isFree states k = eqb (getD states k 0) 0
+
+abbrev pub isUnused : List ℕ → List ℕ → ℕ → Bool
+isUnused reads writes i = eqb (getD reads i 0) 0 && eqb (getD writes i 0) 0
 
 -- what number k adds to the text, and what instrument i does
 unfoldable pub actionCell : List ℕ → List ℕ → ℕ → List ℕ
-actionCell parents states k =
-    if eqb (getD states k 0) 0 then [] else actionFrame k (getD states k 0) (getD parents k 0)
+actionCell parents states k = if isFree states k then [] else actionFrame k (getD states k 0) (getD parents k 0)
 
 unfoldable pub instrumentCell : List ℕ → List ℕ → ℕ → List ℕ
-instrumentCell reads writes i =
-    if eqb (getD reads i 0) 0 && eqb (getD writes i 0) 0 then [] else instrumentFrame i (getD reads i 0) (getD writes i 0)
+instrumentCell reads writes i = if isUnused reads writes i then [] else instrumentFrame i (getD reads i 0) (getD writes i 0)
 
 -- n cells, from k on
 unfoldable pub cellsFrom : (ℕ → List ℕ) → ℕ → ℕ → List ℕ

@@ -3,13 +3,11 @@ mod read;
 mod write;
 
 use bench::Bench;
-use bench::answers::ACCEPTED;
-use bench::answers::UNSOUND;
+use marks::answers::ACCEPTED;
+use marks::answers::MALFORMED;
+use marks::answers::UNSOUND;
 ghost use mathlib.Core.Path.{_≡_};
 ghost use Rattle.saved.specs.Saved.{Saves, sizedAs, emptyRecord, ifSound, Loads};
-
-// Load: the text is not well-shaped.
-pub const MALFORMED: u8 = 8;
 
 // Save: the buffer is shorter than the text.
 pub const NO_ROOM: u8 = 9;
@@ -38,7 +36,7 @@ pub fn text_size(b: Bench) -> Saved
         };
     }
     Saved {
-        count: write::actions_length(&b.states) + write::instruments_length(&b.reads, &b.writes),
+        count: write::text_length(&b.states, &b.reads, &b.writes),
         answer: ACCEPTED,
     }
 }
@@ -53,17 +51,14 @@ pub fn save(b: Bench, out: &mut [u8]) -> Saved
             answer: UNSOUND,
         };
     }
-    let needed = write::actions_length(&b.states) + write::instruments_length(&b.reads, &b.writes);
-    if out.len() < needed {
+    if out.len() < write::text_length(&b.states, &b.reads, &b.writes) {
         return Saved {
             count: 0,
             answer: NO_ROOM,
         };
     }
-    let at = write::write_actions(out, 0, &b.parents, &b.states);
-    let count = write::write_instruments(out, at, &b.reads, &b.writes);
     Saved {
-        count: count,
+        count: write::write_text(out, &b.parents, &b.states, &b.reads, &b.writes),
         answer: ACCEPTED,
     }
 }

@@ -1,10 +1,9 @@
 // Reading a saved text: digits, frames, and the arrays that they fill.
 ghost use mathlib.Core.Path.{_≡_};
-ghost use mathlib.Core.Bool.{_&&_};
 ghost use Prim.Native.Nat.{_+_, _%_, _≤_, _<_};
-ghost use lib.Dec.{eqb};
 ghost use lib.ListN.{length};
-ghost use Rattle.saved.specs.Shape.{digitOf, numberAt, frameAt, parentByte, takeAction, takeInstrument, takeFrom};
+ghost use Rattle.saved.specs.Fields.{fieldsAt};
+ghost use Rattle.saved.specs.Shape.{digitOf, numberAt, frameAt, headAt, parentByte, takeAction, takeInstrument, takeFrom};
 
 // Whether n digits and a 0a stand in the text from place `at` on.
 fn frame_at(text: &[u8], at: usize, n: usize) -> bool
@@ -42,17 +41,43 @@ fn number_at(text: &[u8], at: usize, n: usize) -> u64
     number
 }
 
-// Whether a frame of n digits stands there that begins with the two bytes `kind` and k.
-fn headed(text: &[u8], at: usize, n: usize, kind: u64, k: usize) -> bool
-    requires { ⌜ 4 ≤ n ⌝ }
-    ensures { λ r. ⌜ r ≡ (frameAt (now (text .entry)) at n && eqb (numberAt (now (text .entry)) at 2) kind && eqb (numberAt (now (text .entry)) (at + 2) 2) k) ⌝ }
+// Whether a frame with values of w digits stands there that begins with the two bytes `kind` and k.
+fn headed(text: &[u8], at: usize, w: usize, kind: u64, k: usize) -> bool
+    requires { ⌜ w ≤ 16 ⌝ }
+    ensures { λ r. ⌜ r ≡ headAt w kind (now (text .entry)) at k ⌝ }
 {
-    if !frame_at(text, at, n) {
+    if !frame_at(text, at, 4 + w + w) {
         return false;
     }
     let first = number_at(text, at, 2);
     let second = number_at(text, at + 2, 2);
     (first == kind) & (second == k as u64)
+}
+
+// The two values of a frame, and whether it stands there; where it doesn't, both are 0.
+struct Fields {
+    stands: bool,
+    first: u64,
+    second: u64,
+}
+
+// The frame of `kind` and k with values of w digits, if it stands there.
+fn fields_at(text: &[u8], at: usize, w: usize, kind: u64, k: usize) -> Fields
+    requires { ⌜ w ≤ 16 ⌝ }
+    ensures { λ r. ⌜ r ≡ fieldsAt w kind (now (text .entry)) at k ⌝ }
+{
+    if !headed(text, at, w, kind, k) {
+        return Fields {
+            stands: false,
+            first: 0,
+            second: 0,
+        };
+    }
+    Fields {
+        stands: true,
+        first: number_at(text, at + 4, w),
+        second: number_at(text, at + (4 + w), w),
+    }
 }
 
 // A parent's byte in the record, from its digits in the text.
@@ -75,14 +100,13 @@ fn take_action(
     states: &mut [u8; 64],
 ) -> usize
     requires { ⌜ k < 64 ⌝ }
-    ensures { λ r. ⌜ record { at = r; first = now (parents .exit); second = now (states .exit) } ≡ takeAction (now (text .entry)) k (record { at = at; first = now (parents .entry); second = now (states .entry) }) ⌝ }
+    ensures { λ r. ⌜ record { at = r; first = now (parents .exit); second = now (states .exit) }
+        ≡ takeAction (now (text .entry)) k (record { at = at; first = now (parents .entry); second = now (states .entry) }) ⌝ }
 {
-    if !headed(text, at, 8, 0x11, k) {
-        return at;
-    }
-    let state = number_at(text, at + 4, 2);
-    let parent = number_at(text, at + 6, 2);
-    if ((state == 1) | (state == 2)) & ((parent < 64) | (parent == 0xff)) {
+    let said = fields_at(text, at, 2, 0x11, k);
+    let state = said.first;
+    let parent = said.second;
+    if said.stands & ((state == 1) | (state == 2)) & ((parent < 64) | (parent == 0xff)) {
         parents[k] = parent_byte(parent);
         states[k] = state as u8;
         return at + 9;
@@ -99,24 +123,24 @@ fn take_instrument(
     writes: &mut [u64; 128],
 ) -> usize
     requires { ⌜ i < 128 ⌝ }
-    ensures { λ r. ⌜ record { at = r; first = now (reads .exit); second = now (writes .exit) } ≡ takeInstrument (now (text .entry)) i (record { at = at; first = now (reads .entry); second = now (writes .entry) }) ⌝ }
+    ensures { λ r. ⌜ record { at = r; first = now (reads .exit); second = now (writes .exit) }
+        ≡ takeInstrument (now (text .entry)) i (record { at = at; first = now (reads .entry); second = now (writes .entry) }) ⌝ }
 {
-    if !headed(text, at, 36, 0x12, i) {
-        return at;
+    let said = fields_at(text, at, 16, 0x12, i);
+    let read = said.first;
+    let write = said.second;
+    if said.stands & !((read == 0) & (write == 0)) {
+        reads[i] = read;
+        writes[i] = write;
+        return at + 37;
     }
-    let read = number_at(text, at + 4, 16);
-    let write = number_at(text, at + 20, 16);
-    if (read == 0) & (write == 0) {
-        return at;
-    }
-    reads[i] = read;
-    writes[i] = write;
-    at + 37
+    at
 }
 
 // Reads the frames of actions from the text's start; hands back where they end.
 pub(crate) fn read_actions(text: &[u8], parents: &mut [u8; 64], states: &mut [u8; 64]) -> usize
-    ensures { λ r. ⌜ record { at = r; first = now (parents .exit); second = now (states .exit) } ≡ takeFrom (takeAction (now (text .entry))) 64 0 (record { at = 0; first = now (parents .entry); second = now (states .entry) }) ⌝ }
+    ensures { λ r. ⌜ record { at = r; first = now (parents .exit); second = now (states .exit) }
+        ≡ takeFrom (takeAction (now (text .entry))) 64 0 (record { at = 0; first = now (parents .entry); second = now (states .entry) }) ⌝ }
 {
     let mut at: usize = 0;
     for k in 0..64usize {
@@ -132,7 +156,8 @@ pub(crate) fn read_instruments(
     reads: &mut [u64; 128],
     writes: &mut [u64; 128],
 ) -> usize
-    ensures { λ r. ⌜ record { at = r; first = now (reads .exit); second = now (writes .exit) } ≡ takeFrom (takeInstrument (now (text .entry))) 128 0 (record { at = from; first = now (reads .entry); second = now (writes .entry) }) ⌝ }
+    ensures { λ r. ⌜ record { at = r; first = now (reads .exit); second = now (writes .exit) }
+        ≡ takeFrom (takeInstrument (now (text .entry))) 128 0 (record { at = from; first = now (reads .entry); second = now (writes .entry) }) ⌝ }
 {
     let mut at = from;
     for i in 0..128usize {

@@ -1,8 +1,8 @@
 // Numbers in requests go up to 4,294,967,295: for each request the last number that names something, the first that doesn't, and the farthest.
-use crate::show::first;
-use crate::show::last;
-use crate::show::then;
 use bench::Bench;
+use trials::show::first;
+use trials::show::last;
+use trials::show::then;
 
 // The largest number that a request can hold. In its last six bits it is 63, and in its last seven 127.
 const FARTHEST: u32 = 4294967295;

@@ -1,8 +1,8 @@
 // The sessions that document 01 marks (P), in its order, each from an empty bench.
-use crate::show::first;
-use crate::show::last;
-use crate::show::then;
 use bench::Bench;
+use trials::show::first;
+use trials::show::last;
+use trials::show::then;
 
 // Free number 0: 4; instrument 128 comes before that: 2; number 64 before both: 1.
 fn precedence() {

@@ -1,9 +1,9 @@
 // Where several answers apply, the order 1, 2, 3, 4, 5, 6 decides. 7 before all others is shown by the unsound records. Two pairs never apply
 // together on a sound record: 4 and 5, since a running child's parent runs, and 2 and 6, since an instrument above 127 has no sets.
-use crate::show::first;
-use crate::show::last;
-use crate::show::then;
 use bench::Bench;
+use trials::show::first;
+use trials::show::last;
+use trials::show::then;
 
 // A number above 63 on an instrument above 127.
 fn one_before_two() {

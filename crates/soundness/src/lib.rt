@@ -1,20 +1,21 @@
-// The soundness test: rules 1 to 4 of document 01 on the four arrays, in the order in which they are cheapest to refuse.
-pub mod index;
-
-use index::COMMITTED;
-use index::FREE;
-use index::RUNNING;
-use index::wide;
+// The soundness test: rules 1 to 4 of document 01 on the arrays of a record, in the order in which they are cheapest to refuse.
+use marks::bytes::wide;
+use marks::states::COMMITTED;
+use marks::states::FREE;
+use marks::states::RUNNING;
 ghost use mathlib.Core.Path.{_≡_};
 ghost use Prim.Native.Nat.{ℕ, _≤_, _<_};
 ghost use lib.Dec.{leb};
-ghost use lib.ListN.{getD};
+ghost use lib.ListN.{length, getD};
 ghost use Rattle.sets.specs.Sets.{member};
 ghost use Rattle.rules.specs.Tests.{all, any};
-ghost use Rattle.rules.specs.Sound.{sound, reachesTop};
-ghost use Rattle.rules.specs.ReadWrite.{readWrite};
-ghost use Rattle.views.specs.View.{view};
-ghost use Rattle.views.specs.Parts.{upOf, bytesFit, forbidsOf, forbiddenUnder, permitted, upperChild, NoParentsFrom, ofMembers, standsAt, inUse, stepFrom, StepsUp, Jumped};
+ghost use Rattle.rules.specs.Sound.{reachesTop};
+ghost use Rattle.tables.specs.Tree.{upOf, inUse};
+ghost use Rattle.views.specs.Soundness.{bytesFit, soundWith, StepsUp, Jumped};
+ghost use Rattle.tables.specs.Soundness.{forbidsOf, forbiddenUnder, permitted};
+ghost use Rattle.views.specs.Families.{upperChild, NoParentsFrom};
+ghost use Rattle.tables.specs.Owners.{ofMembers};
+ghost use Rattle.tables.specs.Climbs.{stepFrom};
 
 // Each number's bytes by themselves: rules 1 and 2 but for the sets, and that a parent's byte names a number of the table.
 fn bytes_fit<'a>(parents: &'a [u8; 64], states: &'a [u8; 64]) -> bool
@@ -146,13 +147,13 @@ fn chains_end(parents: &[u8; 64]) -> bool
     false
 }
 
-// All numbers that stand in a set.
-fn standing<'a>(reads: &'a [u64; 128], writes: &'a [u64; 128]) -> u64
-    ensures { λ r. ⌜ ((k : ℕ) → member r k ≡ any 128 (standsAt (now (reads .entry)) (now (writes .entry)) k)) ⌝ }
+// All numbers that stand in one of these sets, of any number of them.
+pub fn standing(words: &[u64]) -> u64
+    ensures { λ r. ⌜ ((k : ℕ) → member r k ≡ any (length (now (words .entry))) (λ i. member (getD (now (words .entry)) i 0) k)) ⌝ }
 {
     let mut numbers = 0u64;
-    for i in 0..128usize {
-        numbers = sets::union(sets::union(numbers, reads[i]), writes[i]);
+    for i in 0..words.len() {
+        numbers = sets::union(numbers, words[i]);
     }
     numbers
 }
@@ -172,14 +173,9 @@ fn none_free(states: &[u8; 64], numbers: u64) -> bool
     true
 }
 
-// Whether the record of these arrays is sound.
-pub fn sound<'a>(
-    parents: &'a [u8; 64],
-    states: &'a [u8; 64],
-    reads: &'a [u64; 128],
-    writes: &'a [u64; 128],
-) -> bool
-    ensures { λ r. ⌜ r ≡ sound readWrite (view (now (parents .entry)) (now (states .entry)) (now (reads .entry)) (now (writes .entry))) ⌝ }
+// Whether a record of these parents and states is sound, where `numbers` are those that stand in a set.
+pub fn sound<'a>(parents: &'a [u8; 64], states: &'a [u8; 64], numbers: u64) -> bool
+    ensures { λ r. ⌜ r ≡ soundWith (now (parents .entry)) (now (states .entry)) numbers ⌝ }
 {
     if !bytes_fit(parents, states) {
         return false;
@@ -190,5 +186,5 @@ pub fn sound<'a>(
     if !chains_end(parents) {
         return false;
     }
-    none_free(states, standing(reads, writes))
+    none_free(states, numbers)
 }

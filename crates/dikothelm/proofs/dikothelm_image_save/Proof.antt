@@ -1,6 +1,6 @@
 -- `dikothelm_image_save` meets its contract: the record of an image is saved. Assumes nothing.
 use borrow.Author.Needs.{needs}
-use Rattle.bench.proofs.Images.{was-image, was-none}
+use Rattle.image.proofs.Images.{was-image, was-none}
 use Rattle.dikothelm.proofs.CallLaws.{none-saved, image-saved}
 use Rattle.dikothelm.proofs.dikothelm_image_save.Statement.{statement}
 use Rattle.dikothelm.proofs.dikothelm_image_save.Tie as tie

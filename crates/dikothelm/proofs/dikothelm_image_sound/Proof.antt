@@ -1,6 +1,6 @@
 -- `dikothelm_image_sound` meets its contract: the record of an image is tested. Assumes nothing.
 use borrow.Author.Needs.{needs}
-use Rattle.bench.proofs.Images.{was-image, was-none}
+use Rattle.image.proofs.Images.{was-image, was-none}
 use Rattle.dikothelm.proofs.CallLaws.{none-sound, image-sound, image-unsound}
 use Rattle.dikothelm.proofs.dikothelm_image_sound.Statement.{statement}
 use Rattle.dikothelm.proofs.dikothelm_image_sound.Tie as tie

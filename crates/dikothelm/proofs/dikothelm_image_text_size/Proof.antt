@@ -1,6 +1,6 @@
 -- `dikothelm_image_text_size` meets its contract: the size of the text of an image's record is told. Assumes nothing.
 use borrow.Author.Needs.{needs}
-use Rattle.bench.proofs.Images.{was-image, was-none}
+use Rattle.image.proofs.Images.{was-image, was-none}
 use Rattle.dikothelm.proofs.CallLaws.{none-sized, image-sized}
 use Rattle.dikothelm.proofs.dikothelm_image_text_size.Statement.{statement}
 use Rattle.dikothelm.proofs.dikothelm_image_text_size.Tie as tie

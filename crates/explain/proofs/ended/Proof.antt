@@ -4,7 +4,7 @@ use native.Mathlib.Omega.{arith}
 use lib.Seq.{length-take-le}
 use borrow.Author.Needs.{needs}
 use Rattle.naming.specs.Text.{reasonLine}
-use Rattle.bench.proofs.Finishing.{finished-within}
+use Rattle.play.proofs.Finishing.{finished-within}
 use Rattle.explain.proofs.ended.Statement.{statement}
 use Rattle.explain.proofs.ended.Tie as tie
 

@@ -4,7 +4,7 @@ use native.Mathlib.Omega.{arith}
 use lib.Seq.{length-take-le}
 use borrow.Author.Needs.{needs}
 use Rattle.lines.specs.Lines.{answerLine}
-use Rattle.bench.proofs.Finishing.{finished-within}
+use Rattle.play.proofs.Finishing.{finished-within}
 use Rattle.player.proofs.ended.Statement.{statement}
 use Rattle.player.proofs.ended.Tie as tie
 

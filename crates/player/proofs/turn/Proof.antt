@@ -2,7 +2,7 @@
 use mathlib.Core.Path.{sym}
 use lib.Seq.{length-take-le}
 use borrow.Author.Needs.{needs}
-use Rattle.bench.proofs.PlayerFeeding.{written-within}
+use Rattle.play.proofs.PlayerFeeding.{written-within}
 use Rattle.player.proofs.turn.Statement.{statement}
 use Rattle.player.proofs.turn.Tie as tie
 

@@ -7,7 +7,7 @@ use native.Mathlib.Omega.{arith}
 use borrow.Author.Needs.{needs}
 use Rattle.rules.specs.Tests.{all}
 use Rattle.rules.proofs.Tests.{all-more}
-use Rattle.views.specs.Parts.{bytesFit}
+use Rattle.views.specs.Soundness.{bytesFit}
 use Rattle.soundness.proofs.bytes_fit.Statement.{statement}
 use Rattle.soundness.proofs.bytes_fit.Tie as tie
 

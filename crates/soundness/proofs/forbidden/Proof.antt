@@ -2,21 +2,20 @@
 -- what is left of the numbers. Assumes nothing.
 use Prim.Native.Nat.{_≤_, _-_}
 use borrow.Author.Needs.{needs}
-use mathlib.Core.Path.{_≡_, refl, sym, _∙_, ap}
 use native.Mathlib.Omega.{arith}
-use Rattle.views.proofs.Bytes.{Shifted, shifted-none, shifted-more}
-use Rattle.views.specs.Parts.{forbidsOf}
+use Rattle.tables.proofs.Bytes.{Shifted, shifted-none, shifted-more}
+use Rattle.tables.specs.Soundness.{forbidsOf}
 use Rattle.soundness.proofs.forbidden.Statement.{statement}
 use Rattle.soundness.proofs.forbidden.Tie as tie
 
 abbrev Inv-loop : tie.InvT-loop
-Inv-loop states table₀ k₀ table k = (k ≤ 64) × Shifted forbidsOf states table k
+Inv-loop states table₀ k₀ table k = (k ≤ 64) × Shifted 64 forbidsOf states table k
 
 abbrev μ-loop : tie.MeasureT-loop
 μ-loop states table₀ k₀ table k = 64 - k
 
 loop-holds : tie.Need-loop-holds Inv-loop μ-loop
-loop-holds c = (search needs, shifted-none forbidsOf (c .args .states .now))
+loop-holds c = (search needs, shifted-none 64 forbidsOf (c .args .states .now))
 
 element-copy-out-forbids : tie.Need-element-copy-out-forbids Inv-loop μ-loop
 element-copy-out-forbids c = search needs
@@ -41,7 +40,7 @@ loop-again c =
     let l = c .before .before .before in (
       search needs,
       rw (c .forbids .ensures)
-          (shifted-more forbidsOf (l .before .args .states .now) (l .loop .table) (l .loop .k) (c .before .before .loop-test .taken) (l .loop .inv .1)),
+          (shifted-more 64 forbidsOf (l .before .args .states .now) (l .loop .table) (l .loop .k) (c .before .before .loop-test .taken) (l .loop .inv .1)),
     )
 
 returns : tie.Need-returns Inv-loop μ-loop

@@ -7,9 +7,10 @@ use lib.ListN.{getD}
 use mathlib.Core.Bool.{not}
 use mathlib.Core.Path.{_≡_, refl, sym, _∙_, ap}
 use Rattle.sets.specs.Sets.{without, least}
-use Rattle.views.proofs.Members.{of-nobody, of-one-refused, of-one-passed}
-use Rattle.views.proofs.Taken.{Taken, least-taken}
-use Rattle.views.specs.Parts.{ofMembers, inUse}
+use Rattle.tables.proofs.Members.{of-nobody, of-one-refused, of-one-passed}
+use Rattle.tables.proofs.Taken.{Taken, least-taken}
+use Rattle.tables.specs.Owners.{ofMembers}
+use Rattle.tables.specs.Tree.{inUse}
 use Rattle.soundness.proofs.none_free.Statement.{statement}
 use Rattle.soundness.proofs.none_free.Tie as tie
 
@@ -26,8 +27,9 @@ least-requires : tie.Need-least-requires Inv-loop μ-loop
 least-requires c κs = search needs
 
 -- the number that a turn takes
-take : (c : tie.After-least Inv-loop μ-loop) → Taken (c .before .before .loop .rest) (c .least .result) (without 64 (c .before .before .loop .rest) (least 64 (c .before .before .loop .rest)))
-take c = rw (c .least .ensures) (least-taken (c .before .before .loop .rest) (c .before .before .loop .inv .0) (c .before .loop-test .taken))
+take : (c : tie.After-least Inv-loop μ-loop) →
+    Taken 64 (c .before .before .loop .rest) (c .least .result) (without 64 (c .before .before .loop .rest) (least 64 (c .before .before .loop .rest)))
+take c = rw (c .least .ensures) (least-taken 64 (c .before .before .loop .rest) (c .before .before .loop .inv .0) (c .before .loop-test .taken))
 
 element-copy-out-if1 : tie.Need-element-copy-out-if1 Inv-loop μ-loop
 element-copy-out-if1 c = take c .known
@@ -37,7 +39,7 @@ returns c =
     let turn = c .before .before in
     let at = turn .before .before in
     sym (sym (at .loop .inv .1)
-    ∙ of-one-refused (at .loop .rest) (turn .least .result) _ (inUse (at .before .args .states .now)) (take turn) (rw (c .if1 .taken)))
+    ∙ of-one-refused 64 (at .loop .rest) (turn .least .result) _ (inUse (at .before .args .states .now)) (take turn) (rw (c .if1 .taken)))
 
 without-least-requires : tie.Need-without-least-requires Inv-loop μ-loop
 without-least-requires c κs = search needs
@@ -52,7 +54,7 @@ loop-again c =
     let states = at .before .args .states .now in
     rw (c .without-least .ensures) (
       take turn .fits,
-      of-one-passed (at .loop .rest) (turn .least .result) _ (inUse states) (take turn) (ap not (ne-eqb (getD states (turn .least .result) 0) 0 (c .before .if1 .left)))
+      of-one-passed 64 (at .loop .rest) (turn .least .result) _ (inUse states) (take turn) (ap not (ne-eqb (getD states (turn .least .result) 0) 0 (c .before .if1 .left)))
           ∙ at .loop .inv .1,
     )
 

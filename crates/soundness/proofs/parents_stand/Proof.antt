@@ -9,9 +9,9 @@ use native.Mathlib.Numerals.{add-one}
 use native.Mathlib.Omega.{arith}
 use Rattle.rules.proofs.Tests.{all-more}
 use Rattle.rules.specs.Tests.{all}
-use Rattle.views.proofs.Bytes.{permitted-all}
-use Rattle.views.proofs.Jumps.{or-ended}
-use Rattle.views.specs.Parts.{permitted}
+use Rattle.tables.proofs.Bytes.{permitted-all}
+use Rattle.tables.proofs.Jumps.{or-ended}
+use Rattle.tables.specs.Soundness.{permitted}
 use Rattle.soundness.proofs.parents_stand.Statement.{statement}
 use Rattle.soundness.proofs.parents_stand.Tie as tie
 
@@ -67,7 +67,7 @@ returns c =
     let start = l .before .before .before in
     let end = l .before .end-of-children in
     let e : l .loop .k ≡ end .result = omega arith in
-    (rw e at (l .loop .inv .1)) ∙ permitted-all (start .args .parents .now) (start .args .states .now) (end .result) (end .ensures .0) (end .ensures .1)
+    (rw e at (l .loop .inv .1)) ∙ permitted-all 64 (start .args .parents .now) (start .args .states .now) (end .result) (end .ensures .0) (end .ensures .1)
 
 pub parents-stand-spec : {M : Type 1} → statement M
 parents-stand-spec =

@@ -2,20 +2,19 @@
 -- measure is what is left of the numbers. Assumes nothing.
 use Prim.Native.Nat.{_≤_, _-_}
 use borrow.Author.Needs.{needs}
-use mathlib.Core.Path.{_≡_, refl, sym, _∙_, ap}
 use native.Mathlib.Omega.{arith}
-use Rattle.views.proofs.Bytes.{Shifted, shifted-none, shifted-more}
+use Rattle.tables.proofs.Bytes.{Shifted, shifted-none, shifted-more}
 use Rattle.soundness.proofs.steps_up.Statement.{statement}
 use Rattle.soundness.proofs.steps_up.Tie as tie
 
 abbrev Inv-loop : tie.InvT-loop
-Inv-loop parents up₀ k₀ up k = (k ≤ 64) × Shifted (λ p. p) parents up k
+Inv-loop parents up₀ k₀ up k = (k ≤ 64) × Shifted 64 (λ p. p) parents up k
 
 abbrev μ-loop : tie.MeasureT-loop
 μ-loop parents up₀ k₀ up k = 64 - k
 
 loop-holds : tie.Need-loop-holds Inv-loop μ-loop
-loop-holds c = (search needs, shifted-none (λ p. p) (c .args .parents .now))
+loop-holds c = (search needs, shifted-none 64 (λ p. p) (c .args .parents .now))
 
 element-copy-out-up : tie.Need-element-copy-out-up Inv-loop μ-loop
 element-copy-out-up c = search needs
@@ -35,7 +34,7 @@ loop-less c = search needs
 loop-again : tie.Need-loop-again Inv-loop μ-loop
 loop-again c =
     let l = c .before .before in
-    (search needs, shifted-more (λ p. p) (l .before .args .parents .now) (l .loop .up) (l .loop .k) (c .before .loop-test .taken) (l .loop .inv .1))
+    (search needs, shifted-more 64 (λ p. p) (l .before .args .parents .now) (l .loop .up) (l .loop .k) (c .before .loop-test .taken) (l .loop .inv .1))
 
 returns : tie.Need-returns Inv-loop μ-loop
 returns c x h = c .before .loop .inv .1 .at x (omega arith)

@@ -1,5 +1,5 @@
 -- `Bench::empty` meets its contract: arrays of zeros are read as the empty bench. Assumes nothing.
-use Rattle.views.proofs.Stores.{empty-shown}
+use Rattle.views.proofs.Words.{empty-shown}
 use Rattle.bench.proofs.Bench.empty.Statement.{statement}
 use Rattle.bench.proofs.Bench.empty.Tie as tie
 

@@ -4,9 +4,11 @@ use mathlib.Core.Path.{_≡_}
 use borrow.Author.Needs.{needs}
 use lib.ListN.{length}
 use Rattle.rules.specs.Requests.{openSub}
+use Rattle.tables.proofs.Steps.{step-refused}
+use Rattle.rules.specs.ReadWrite.{readWrite}
+use Rattle.views.specs.View.{layout, arrays}
+use Rattle.tables.proofs.Accepts.{open-sub-accepted}
 use Rattle.bench.specs.Record.{viewed}
-use Rattle.views.proofs.Steps.{step-refused}
-use Rattle.bench.proofs.Accepts.{open-sub-accepted}
 use Rattle.bench.proofs.Bench.open_sub.Statement.{statement}
 use Rattle.bench.proofs.Bench.open_sub.Tie as tie
 
@@ -33,13 +35,13 @@ returns c =
     let args = c .before .before .before .before .before .before .before .args in
     let parents-long : length (args .t1 .parents) ≡ 64 = search needs in
     let states-long : length (args .t1 .states) ≡ 64 = search needs in
-    open-sub-accepted (args .t1) (c .before .open-sub-answer .result) (args .n)
+    open-sub-accepted layout (arrays (args .t1 .parents) (args .t1 .states) (args .t1 .reads) (args .t1 .writes)) (c .before .open-sub-answer .result) (args .n)
     (args .p) parents-long states-long (c .before .open-sub-answer .ensures) (c .if1 .taken)
 
 returns-2 : tie.Need-returns-2
 returns-2 c =
     let args = c .before .before .before .before .before .before .before .args in
-    step-refused (viewed (args .t1)) (openSub (args .n) (args .p))
+    step-refused readWrite (viewed (args .t1)) (openSub (args .n) (args .p))
     (c .before .open-sub-answer .result) (c .before .open-sub-answer .ensures) (c .if1 .left)
 
 pub open-sub-spec : {M : Type 1} → statement M

@@ -4,9 +4,11 @@ use mathlib.Core.Path.{_≡_}
 use borrow.Author.Needs.{needs}
 use lib.ListN.{length}
 use Rattle.rules.specs.Requests.{openTop}
+use Rattle.tables.proofs.Steps.{step-refused}
+use Rattle.rules.specs.ReadWrite.{readWrite}
+use Rattle.views.specs.View.{layout, arrays}
+use Rattle.tables.proofs.Accepts.{open-top-accepted}
 use Rattle.bench.specs.Record.{viewed}
-use Rattle.views.proofs.Steps.{step-refused}
-use Rattle.bench.proofs.Accepts.{open-top-accepted}
 use Rattle.bench.proofs.Bench.open_top.Statement.{statement}
 use Rattle.bench.proofs.Bench.open_top.Tie as tie
 
@@ -23,12 +25,13 @@ returns : tie.Need-returns
 returns c =
     let args = c .before .before .before .before .before .before .before .args in
     let long : length (args .t1 .states) ≡ 64 = search needs in
-    open-top-accepted (args .t1) (c .before .open-top-answer .result) (args .n) long (c .before .open-top-answer .ensures) (c .if1 .taken)
+    open-top-accepted layout (arrays (args .t1 .parents) (args .t1 .states) (args .t1 .reads) (args .t1 .writes)) (c .before .open-top-answer .result) (args .n) long
+    (c .before .open-top-answer .ensures) (c .if1 .taken)
 
 returns-2 : tie.Need-returns-2
 returns-2 c =
     let args = c .before .before .before .before .before .before .before .args in
-    step-refused (viewed (args .t1)) (openTop (args .n)) (c .before .open-top-answer .result) (c .before .open-top-answer .ensures) (c .if1 .left)
+    step-refused readWrite (viewed (args .t1)) (openTop (args .n)) (c .before .open-top-answer .result) (c .before .open-top-answer .ensures) (c .if1 .left)
 
 pub open-top-spec : {M : Type 1} → statement M
 open-top-spec =

@@ -3,15 +3,16 @@
 use mathlib.Core.Path.{_≡_}
 use borrow.Author.Needs.{needs}
 use lib.ListN.{length}
-use Rattle.rules.specs.ReadWrite.{read}
+use Rattle.rules.specs.ReadWrite.{read, readWrite}
+use Rattle.tables.proofs.Steps.{step-refused}
+use mathlib.Core.Bool.{false}
+use Rattle.views.proofs.Asks.{asked-accepted}
 use Rattle.bench.specs.Record.{viewed}
-use Rattle.views.proofs.Steps.{step-refused}
-use Rattle.bench.proofs.Accepts.{read-accepted}
 use Rattle.bench.proofs.Bench.read.Statement.{statement}
 use Rattle.bench.proofs.Bench.read.Tie as tie
 
-read-answer-requires : tie.Need-read-answer-requires
-read-answer-requires c κs = search needs
+ask-answer-requires : tie.Need-ask-answer-requires
+ask-answer-requires c κs = search needs
 
 cast-at : tie.Need-cast-at
 cast-at c = search needs
@@ -40,19 +41,19 @@ returns c =
     let s = answered .before .before .before .before .before .before .before in
     let args = s .args in
     let long : length (args .t1 .reads) ≡ 128 = search (needs, s .good) in
-    read-accepted (args .t1) (answered .before .read-answer .result) (args .a) (args .i)
-    (c .with .result) long (c .with .ensures) (answered .before .read-answer .ensures) (answered .if1 .taken)
+    asked-accepted (args .t1 .parents) (args .t1 .states) (args .t1 .reads) (args .t1 .writes) false (answered .before .ask-answer .result) (args .a) (args .i)
+    (c .with .result) long (c .with .ensures) (answered .before .ask-answer .ensures) (answered .if1 .taken)
 
 returns-2 : tie.Need-returns-2
 returns-2 c =
     let args = c .before .before .before .before .before .before .before .args in
-    step-refused (viewed (args .t1)) (read (args .a) (args .i)) (c .before .read-answer .result) (c .before .read-answer .ensures) (c .if1 .left)
+    step-refused readWrite (viewed (args .t1)) (read (args .a) (args .i)) (c .before .ask-answer .result) (c .before .ask-answer .ensures) (c .if1 .left)
 
 pub read-spec : {M : Type 1} → statement M
 read-spec =
     tie.close
     (tie.spec
-    read-answer-requires
+    ask-answer-requires
     cast-at
     mul-with
     element-copy-out-with

@@ -5,8 +5,10 @@ use Rattle.rules.specs.Requests.{commit}
 use Rattle.rules.specs.Owners.{hasRunningChild}
 use Rattle.rules.specs.Answers.{rowBy}
 use Rattle.views.specs.View.{view}
-use Rattle.views.proofs.Steps.{answer-unsound, answer-sound}
-use Rattle.views.proofs.Rows.{looked-for-child}
+use Rattle.rules.specs.ReadWrite.{readWrite}
+use Rattle.tables.proofs.Steps.{answer-unsound, answer-sound}
+use Rattle.tables.proofs.Rows.{looked-for-child}
+use Rattle.steps.proofs.Laws.{commit-row-is}
 use Rattle.bench.proofs.answers.commit_answer.Statement.{statement}
 use Rattle.bench.proofs.answers.commit_answer.Tie as tie
 
@@ -16,7 +18,7 @@ sound-requires c κs = search needs
 returns : tie.Need-returns
 returns c =
     let args = c .before .before .args in
-    answer-unsound (view (args .parents .now) (args .states .now) (args .reads .now) (args .writes .now))
+    answer-unsound readWrite (view (args .parents .now) (args .states .now) (args .reads .now) (args .writes .now))
     (commit (args .a)) (c .before .sound .result) (c .before .sound .ensures) (c .if1 .taken)
 
 cast-running-child : tie.Need-cast-running-child
@@ -29,9 +31,7 @@ running-child-requires : tie.Need-running-child-requires
 running-child-requires c κs = search needs
 
 commit-row-requires : tie.Need-commit-row-requires
-commit-row-requires c κs =
-    let args = c .before .before .before .args in
-    looked-for-child (args .parents .now) (args .states .now) (args .a) (c .running-child .result) (c .running-child .ensures)
+commit-row-requires c κs = search needs
 
 returns-2 : tie.Need-returns-2
 unfolding rowBy hasRunningChild
@@ -39,8 +39,12 @@ returns-2 c =
     let asked = c .before .before in
     let sound = asked .before .sound in
     let args = asked .before .before .args in
+    let busy = c .before .running-child in
+    let child = looked-for-child 64 (args .parents .now) (args .states .now) (args .a) (busy .result) (busy .ensures) in
     c .commit-row .ensures
-    ∙ answer-sound (view (args .parents .now) (args .states .now) (args .reads .now) (args .writes .now)) (commit (args .a)) (sound .result) (sound .ensures) (asked .if1 .left)
+    ∙ commit-row-is (args .parents .now) (args .states .now) (args .a) (busy .result) child
+    ∙ answer-sound readWrite (view (args .parents .now) (args .states .now) (args .reads .now) (args .writes .now)) (commit (args .a)) (sound .result) (sound .ensures)
+    (asked .if1 .left)
 
 pub commit-answer-spec : {M : Type 1} → statement M
 commit-answer-spec =

@@ -16,9 +16,6 @@ empty-requires c κs = search needs
 open-top-requires : tie.Need-open-top-requires Inv-loop μ-loop
 open-top-requires c κs = search needs
 
-after-requires : tie.Need-after-requires Inv-loop μ-loop
-after-requires c κs = search needs
-
 loop-holds : tie.Need-loop-holds Inv-loop μ-loop
 loop-holds c = search needs
 
@@ -27,9 +24,6 @@ add-open-sub c = search needs
 
 open-sub-requires : tie.Need-open-sub-requires Inv-loop μ-loop
 open-sub-requires c κs = search needs
-
-after-requires-2 : tie.Need-after-requires-2 Inv-loop μ-loop
-after-requires-2 c κs = search needs
 
 add-k : tie.Need-add-k Inv-loop μ-loop
 add-k c = search needs
@@ -51,11 +45,9 @@ all-numbers-spec =
     μ-loop
     empty-requires
     open-top-requires
-    after-requires
     loop-holds
     add-open-sub
     open-sub-requires
-    after-requires-2
     add-k
     loop-less
     loop-again

@@ -28,17 +28,11 @@ add-read c = search needs
 read-requires : tie.Need-read-requires Inv-loop μ-loop Inv-loop2 μ-loop2
 read-requires c κs = search needs
 
-after-requires : tie.Need-after-requires Inv-loop μ-loop Inv-loop2 μ-loop2
-after-requires c κs = search needs
-
 add-write : tie.Need-add-write Inv-loop μ-loop Inv-loop2 μ-loop2
 add-write c = search needs
 
 write-requires : tie.Need-write-requires Inv-loop μ-loop Inv-loop2 μ-loop2
 write-requires c κs = search needs
-
-after-requires-2 : tie.Need-after-requires-2 Inv-loop μ-loop Inv-loop2 μ-loop2
-after-requires-2 c κs = search needs
 
 add-i : tie.Need-add-i Inv-loop μ-loop Inv-loop2 μ-loop2
 add-i c = search needs
@@ -54,9 +48,6 @@ loop2-holds c = search needs
 
 commit-requires : tie.Need-commit-requires Inv-loop μ-loop Inv-loop2 μ-loop2
 commit-requires c κs = search needs
-
-after-requires-3 : tie.Need-after-requires-3 Inv-loop μ-loop Inv-loop2 μ-loop2
-after-requires-3 c κs = search needs
 
 add-n : tie.Need-add-n Inv-loop μ-loop Inv-loop2 μ-loop2
 add-n c = search needs
@@ -82,16 +73,13 @@ full-spec =
     loop-holds
     add-read
     read-requires
-    after-requires
     add-write
     write-requires
-    after-requires-2
     add-i
     loop-less
     loop-again
     loop2-holds
     commit-requires
-    after-requires-3
     add-n
     loop2-less
     loop2-again

@@ -2,7 +2,7 @@
 -- measure is the set that is left. Assumes nothing.
 use borrow.Author.Needs.{needs}
 use Rattle.sets.specs.Sets.{without, least}
-use Rattle.views.proofs.Taken.{Taken, least-taken}
+use Rattle.tables.proofs.Taken.{Taken, least-taken}
 use Rattle.naming.proofs.HeirSets.{Gathering, gathering-start, gathering-turn, gathering-end}
 use Rattle.naming.proofs.blocking.heirs_of.Statement.{statement}
 use Rattle.naming.proofs.blocking.heirs_of.Tie as tie
@@ -29,8 +29,9 @@ without-least-requires : tie.Need-without-least-requires Inv-loop μ-loop
 without-least-requires c κs = search needs
 
 -- the number that a turn takes
-take : (c : tie.After-least Inv-loop μ-loop) → Taken (c .before .before .loop .rest) (c .least .result) (without 64 (c .before .before .loop .rest) (least 64 (c .before .before .loop .rest)))
-take c = rw (c .least .ensures) (least-taken (c .before .before .loop .rest) (c .before .before .loop .inv .fits) (c .before .loop-test .taken))
+take : (c : tie.After-least Inv-loop μ-loop) →
+    Taken 64 (c .before .before .loop .rest) (c .least .result) (without 64 (c .before .before .loop .rest) (least 64 (c .before .before .loop .rest)))
+take c = rw (c .least .ensures) (least-taken 64 (c .before .before .loop .rest) (c .before .before .loop .inv .fits) (c .before .loop-test .taken))
 
 loop-less : tie.Need-loop-less Inv-loop μ-loop
 loop-less c = rw (c .without-least .ensures) (take (c .before .before .before) .falls)

@@ -7,7 +7,7 @@ use borrow.Author.Tests.{ne-eqb}
 use lib.Dec.{eqb}
 use Rattle.rules.specs.Requests.{openTop, openSub, commit, abort}
 use Rattle.rules.specs.ReadWrite.{read, write}
-use Rattle.lines.specs.Feeding.{framed}
+use Rattle.rules.specs.Frames.{framed}
 use Rattle.reasons.proofs.Frames.{answered-as, malformed-as}
 use Rattle.reasons.proofs.frame.answer_of.Statement.{statement}
 use Rattle.reasons.proofs.frame.answer_of.Tie as tie

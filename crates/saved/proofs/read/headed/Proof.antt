@@ -9,17 +9,23 @@ use Rattle.saved.proofs.ReadFrames.{frame-fits}
 use Rattle.saved.proofs.read.headed.Statement.{statement}
 use Rattle.saved.proofs.read.headed.Tie as tie
 
+add-frame-at : tie.Need-add-frame-at
+add-frame-at c = search needs
+
+add-frame-at-2 : tie.Need-add-frame-at-2
+add-frame-at-2 c = search needs
+
 frame-at-requires : tie.Need-frame-at-requires
 frame-at-requires c κs = search needs
 
 returns : tie.Need-returns
 returns c = rw (← c .before .frame-at .ensures, not-true (c .before .frame-at .result) (c .if1 .taken))
 
-within : (c : tie.Else1) → let s = c .before .before .before .args in s .at + s .n < length (s .text .now)
+within : (c : tie.Else1) → let s = c .before .before .before .args in s .at + (4 + s .w + s .w) < length (s .text .now)
 within c =
     let s = c .before .before .before .args in
     let f = c .before .frame-at in
-    frame-fits (s .text .now) (s .at) (s .n) (sym (f .ensures) ∙ not-false (f .result) (c .if1 .left))
+    frame-fits (s .text .now) (s .at) (4 + s .w + s .w) (sym (f .ensures) ∙ not-false (f .result) (c .if1 .left))
 
 number-at-requires : tie.Need-number-at-requires
 number-at-requires c κs = let h = within c in (omega arith, omega arith)
@@ -39,6 +45,8 @@ pub headed-spec : {M : Type 1} → statement M
 headed-spec =
     tie.close
     (tie.spec
+    add-frame-at
+    add-frame-at-2
     frame-at-requires
     returns
     number-at-requires

@@ -1,94 +1,66 @@
--- `take_action` meets its contract: the frame's head, then its state and parent, decide as the definition does. Assumes nothing.
-use mathlib.Core.Path.{_≡_}
-use Prim.Native.Nat.{_+_, _<_}
-use mathlib.Core.Bool.{_&&_, _||_}
+-- `take_action` meets its contract: the frame's state and parent decide as the definition does. Assumes nothing.
+use mathlib.Core.Path.{_≡_, refl, sym}
+use mathlib.Core.Bool.{Bool, _&&_, _||_}
+use Prim.Native.Nat.{ℕ}
 use native.Mathlib.Omega.{arith}
 use lib.Dec.{eqb, ltb}
-use lib.ListN.{length}
 use borrow.Author.Needs.{needs}
-use borrow.Author.Tests.{not-true, not-false}
-use Rattle.saved.specs.Shape.{actionAt, numberAt}
-use Rattle.saved.proofs.Hex.{number-fits}
-use Rattle.saved.proofs.ReadFrames.{head-fits}
+use Rattle.saved.specs.Shape.{actionAt}
+use Rattle.saved.proofs.ReadFrames.{Said, fields-tested, fields-said}
 use Rattle.saved.proofs.read.take_action.Statement.{statement}
 use Rattle.saved.proofs.read.take_action.Tie as tie
 
-headed-requires : tie.Need-headed-requires
-headed-requires c κs = search needs
+-- the test of a frame with this state and parent
+abbrev test : Bool → ℕ → ℕ → Bool
+test stands state parent = stands && (eqb state 1 || eqb state 2) && (ltb parent 64 || eqb parent 0xff)
 
-returns : tie.Need-returns
+decided : (c : tie.After-struct-known) → let f = c .before in let a = f .before .before .args in let r = f .fields-at .result in
+    actionAt (a .text .now) (a .at) (a .k) ≡ test (r .stands) (r .first) (r .second)
 unfolding actionAt
-returns c = rw (← c .before .headed .ensures, not-true (c .before .headed .result) (c .if1 .taken))
+decided c =
+    let f = c .before in
+    let a = f .before .before .args in sym (fields-tested 2 0x11 (a .text .now) (a .at) (a .k) (f .fields-at .ensures) test (λ x y. refl))
 
-within : (c : tie.Else1) → let s = c .before .before .before .args in s .at + 8 < length (s .text .now)
-within c =
-    let s = c .before .before .before .args in
-    let text = s .text .now in
-    head-fits text (s .at) 8 (eqb (numberAt text (s .at) 2) 0x11) (eqb (numberAt text (s .at + 2) 2) (s .k))
-    (c .before .headed .result) (c .before .headed .ensures) (c .if1 .left)
+said : (c : tie.Then1) → let f = c .before .before in let a = f .before .before .args in Said 2 0x11 (a .text .now) (a .at) (a .k) (f .fields-at .result)
+said c =
+    let f = c .before .before in
+    let a = f .before .before .args in fields-said 2 0x11 (a .text .now) (a .at) (a .k) (f .fields-at .ensures) test (λ x y. refl) (c .if1 .taken)
 
-add-number-at : tie.Need-add-number-at
-add-number-at c = let h = within c in omega arith
-
-number-at-requires : tie.Need-number-at-requires
-number-at-requires c κs = let h = within c in (omega arith, omega arith)
-
-add-number-at-2 : tie.Need-add-number-at-2
-add-number-at-2 c = let h = within (c .before) in omega arith
-
-number-at-requires-2 : tie.Need-number-at-requires-2
-number-at-requires-2 c κs = let h = within (c .before) in (omega arith, omega arith)
+fields-at-requires : tie.Need-fields-at-requires
+fields-at-requires c κs = search needs
 
 parent-byte-requires : tie.Need-parent-byte-requires
-parent-byte-requires c κs =
-    let s = c .before .before .before .before .before .before .args in
-    omega (arith, number-fits 2 (s .text .now) (s .at + 6))
+parent-byte-requires c κs = let h = said c in omega arith
 
 element-write-parents : tie.Need-element-write-parents
 element-write-parents c = search needs
 
 cast-states : tie.Need-cast-states
-cast-states c =
-    let s = c .before .before .before .before .before .before .before .args in
-    omega (arith, number-fits 2 (s .text .now) (s .at + 4))
+cast-states c = let h = said (c .before) in omega arith
 
 element-write-states : tie.Need-element-write-states
 element-write-states c = search needs
 
 add-result : tie.Need-add-result
-add-result c = let h = within (c .before .before .before .before) in omega arith
+add-result c = let h = said (c .before) in omega arith
 
--- the frame's test, once its head stands there
-decided : (c : tie.After-number-at2) → let s = c .before .before .before .before .before .args in actionAt (s .text .now) (s .at) (s .k)
-    ≡ ((eqb (c .before .number-at .result) 1 || eqb (c .before .number-at .result) 2)
-    && (ltb (c .number-at2 .result) 64 || eqb (c .number-at2 .result) 0xff))
-unfolding actionAt
-decided c =
-    let e = c .before .before in
-    rw (← e .before .headed .ensures, not-false (e .before .headed .result) (e .if1 .left), c .before .number-at .ensures, c .number-at2 .ensures)
+returns : tie.Need-returns
+returns c =
+    let h = said (c .before) in
+    rw (decided (c .before .before), c .before .if1 .taken, c .parent-byte .ensures, h .first, h .second)
 
 returns-2 : tie.Need-returns-2
-returns-2 c =
-    let a = c .before .before in
-    rw (decided a, c .before .if2 .taken, c .parent-byte .ensures, a .before .number-at .ensures, a .number-at2 .ensures)
-
-returns-3 : tie.Need-returns-3
-returns-3 c = rw (decided (c .before), c .if2 .left)
+returns-2 c = rw (decided (c .before), c .if1 .left)
 
 pub take-action-spec : {M : Type 1} → statement M
 take-action-spec =
     tie.close
     (tie.spec
-    headed-requires
-    returns
-    add-number-at
-    number-at-requires
-    add-number-at-2
-    number-at-requires-2
+    fields-at-requires
     parent-byte-requires
     element-write-parents
     cast-states
     element-write-states
     add-result
-    returns-2
-    returns-3)
+    returns
+    returns-2)

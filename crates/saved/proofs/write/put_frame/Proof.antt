@@ -30,17 +30,20 @@ add-put-number-4 c = search needs
 put-number-requires-4 : tie.Need-put-number-requires-4
 put-number-requires-4 c κs = search needs
 
-add-out : tie.Need-add-out
-add-out c = search needs
+add-end : tie.Need-add-end
+add-end c = search needs
 
-add-out-2 : tie.Need-add-out-2
-add-out-2 c = search needs
+add-end-2 : tie.Need-add-end-2
+add-end-2 c = search needs
 
-add-out-3 : tie.Need-add-out-3
-add-out-3 c = search needs
+add-end-3 : tie.Need-add-end-3
+add-end-3 c = search needs
 
 slice-write-out : tie.Need-slice-write-out
 slice-write-out c = search needs
+
+add-result : tie.Need-add-result
+add-result c = search needs
 
 same-length : tie.Need-same-length
 same-length c = simp length-set (omega arith)
@@ -68,9 +71,10 @@ put-frame-spec =
     add-put-number-3
     add-put-number-4
     put-number-requires-4
-    add-out
-    add-out-2
-    add-out-3
+    add-end
+    add-end-2
+    add-end-3
     slice-write-out
+    add-result
     same-length
     returns)

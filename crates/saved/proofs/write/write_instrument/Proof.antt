@@ -1,9 +1,8 @@
 -- `write_instrument` meets its contract: nothing for an instrument whose sets are both empty, else its frame. Assumes nothing.
 use borrow.Author.Needs.{needs}
-use lib.ListN.{getD}
-use Rattle.saved.specs.Text.{instrumentFrame, instrumentCell}
-use Rattle.saved.proofs.WrittenFrames.{length-frame}
-use Rattle.saved.proofs.WrittenCells.{nothing-written, frame-written, length-instrument}
+use lib.ListN.{length, getD}
+use Rattle.saved.specs.Text.{isUnused, instrumentFrame, instrumentCell}
+use Rattle.saved.proofs.WrittenCells.{bare-written, frame-written, frame-room}
 use Rattle.saved.proofs.write.write_instrument.Statement.{statement}
 use Rattle.saved.proofs.write.write_instrument.Tie as tie
 
@@ -23,19 +22,16 @@ returns : tie.Need-returns
 unfolding instrumentCell
 returns c =
     let a = c .before .before .before .before .args in
-    let r = getD (a .reads .now) (a .i) 0 in
-    let w = getD (a .writes .now) (a .i) 0 in
-    nothing-written (instrumentFrame (a .i) r w) (c .if1 .taken)
+    bare-written (instrumentFrame (a .i) (getD (a .reads .now) (a .i) 0) (getD (a .writes .now) (a .i) 0)) (c .if1 .taken)
 
 put-frame-requires : tie.Need-put-frame-requires
+unfolding instrumentCell instrumentFrame
 put-frame-requires c κs =
-    let taken = c .before in
-    let start = taken .before .before .before .before in
+    let left = c .before in
+    let start = left .before .before .before .before in
     let a = start .args in
-    let room = rw (length-instrument (a .reads .now) (a .writes .now) (a .i), taken .if1 .left) at (start .pre .1) in search needs
-
-add-result : tie.Need-add-result
-add-result c = search needs
+    let room = frame-room (isUnused (a .reads .now) (a .writes .now) (a .i)) 16 0x12 (a .i) (getD (a .reads .now) (a .i) 0) (getD (a .writes .now) (a .i) 0)
+    (a .at) (length (a .out .now)) (left .if1 .left) (start .pre .1) in search needs
 
 same-length : tie.Need-same-length
 same-length c = search needs
@@ -44,11 +40,9 @@ returns-2 : tie.Need-returns-2
 unfolding instrumentCell instrumentFrame
 returns-2 c =
     let put = c .before .before in
-    let taken = put .before .before in
-    let a = taken .before .before .before .before .args in
-    let r = getD (a .reads .now) (a .i) 0 in
-    let w = getD (a .writes .now) (a .i) 0 in
-    frame-written (instrumentFrame (a .i) r w) (taken .if1 .left) (put .put-frame .ensures) (rw (length-frame 16 0x12 (a .i) r w))
+    let left = put .before .before in
+    let a = left .before .before .before .before .args in
+    frame-written (instrumentFrame (a .i) (getD (a .reads .now) (a .i) 0) (getD (a .writes .now) (a .i) 0)) (left .if1 .left) (put .put-frame .ensures)
 
 pub write-instrument-spec : {M : Type 1} → statement M
 write-instrument-spec =
@@ -60,6 +54,5 @@ write-instrument-spec =
     element-copy-out-written
     returns
     put-frame-requires
-    add-result
     same-length
     returns-2)

@@ -1,0 +1,26 @@
+-- `put_actions` meets its contract: two halves put one after the other are the whole. Assumes nothing.
+use borrow.Author.Needs.{needs}
+use Rattle.image.proofs.Copies.{put-halves}
+use Rattle.image.proofs.put_actions.Statement.{statement}
+use Rattle.image.proofs.put_actions.Tie as tie
+
+put-bytes-requires : tie.Need-put-bytes-requires
+put-bytes-requires c κs = search needs
+
+put-bytes-requires-2 : tie.Need-put-bytes-requires-2
+put-bytes-requires-2 c κs = search needs
+
+same-length : tie.Need-same-length
+same-length c = search needs
+
+returns : tie.Need-returns
+returns c =
+    let second = c .before .before in
+    let first = second .before .before .before .before in
+    let s = first .before .before .before in
+    let a = s .args in
+    put-halves 64 (a .actions .now) (a .parents .now) (a .states .now) (first .put-bytes .last .0) (second .put-bytes2 .last .0)
+    (s .pre .0) (s .pre .1) (s .pre .2) (first .put-bytes .ensures) (second .put-bytes2 .ensures)
+
+pub put-actions-spec : {M : Type 1} → statement M
+put-actions-spec = tie.close (tie.spec put-bytes-requires put-bytes-requires-2 same-length returns)

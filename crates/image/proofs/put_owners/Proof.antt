@@ -1,0 +1,26 @@
+-- `put_owners` meets its contract: two halves put one after the other are the whole. Assumes nothing.
+use borrow.Author.Needs.{needs}
+use Rattle.image.proofs.Copies.{put-halves}
+use Rattle.image.proofs.put_owners.Statement.{statement}
+use Rattle.image.proofs.put_owners.Tie as tie
+
+put-words-requires : tie.Need-put-words-requires
+put-words-requires c κs = search needs
+
+put-words-requires-2 : tie.Need-put-words-requires-2
+put-words-requires-2 c κs = search needs
+
+same-length : tie.Need-same-length
+same-length c = search needs
+
+returns : tie.Need-returns
+returns c =
+    let second = c .before .before in
+    let first = second .before .before .before .before in
+    let s = first .before .before .before in
+    let a = s .args in
+    put-halves 128 (a .owners .now) (a .reads .now) (a .writes .now) (first .put-words .last .0) (second .put-words2 .last .0)
+    (s .pre .0) (s .pre .1) (s .pre .2) (first .put-words .ensures) (second .put-words2 .ensures)
+
+pub put-owners-spec : {M : Type 1} → statement M
+put-owners-spec = tie.close (tie.spec put-words-requires put-words-requires-2 same-length returns)

@@ -1,0 +1,160 @@
+// A bench's image, as a C caller lends it: 128 bytes, the parents of the 64 numbers and then their states, and 256 words, the read sets of the 128
+// instruments and then the write sets. Slices of other lengths are no image.
+use bench::Bench;
+use marks::answers::ACCEPTED;
+use marks::answers::MALFORMED;
+use marks::answers::UNSOUND;
+use soundness::sound;
+use soundness::standing;
+use steps::engine;
+ghost use mathlib.Core.Path.{_≡_};
+ghost use mathlib.Core.List.{_++_};
+ghost use mathlib.Core.Bool.{true};
+ghost use Prim.Native.Nat.{_+_, _≤_};
+ghost use lib.ListN.{length, take, drop};
+ghost use lib.Seq.{paste};
+ghost use Rattle.image.specs.Image.{isImage, recordOf, StoredAs, unsoundAnswer, Requested};
+ghost use Rattle.rules.specs.Frames.{framed};
+
+// Whether the slices are an image: by their lengths alone.
+pub fn is_image(actions: &[u8], owners: &[u64]) -> bool
+    ensures { λ r. ⌜ r ≡ isImage (now (actions .entry)) (now (owners .entry)) ⌝ }
+{
+    (actions.len() == 128) & (owners.len() == 256)
+}
+
+// 64 bytes from a place on.
+fn bytes_from(actions: &[u8], at: usize) -> [u8; 64]
+    requires { ⌜ at + 64 ≤ length (now actions) ⌝ }
+    ensures { λ r. ⌜ r ≡ take 64 (drop at (now (actions .entry))) ⌝ }
+{
+    let mut bytes = [0u8; 64];
+    for k in 0..64usize {
+        bytes[k] = actions[at + k];
+    }
+    bytes
+}
+
+// 128 words from a place on.
+fn words_from(owners: &[u64], at: usize) -> [u64; 128]
+    requires { ⌜ at + 128 ≤ length (now owners) ⌝ }
+    ensures { λ r. ⌜ r ≡ take 128 (drop at (now (owners .entry))) ⌝ }
+{
+    let mut words = [0u64; 128];
+    for k in 0..128usize {
+        words[k] = owners[at + k];
+    }
+    words
+}
+
+// Puts 64 bytes from a place on.
+fn put_bytes(actions: &mut [u8], at: usize, bytes: &[u8; 64])
+    requires { ⌜ (at + 64 ≤ length (now actions)) × (length (now bytes) ≡ 64) ⌝ }
+    ensures { λ r. ⌜ now (actions .exit) ≡ paste (now (actions .entry)) at (now (bytes .entry)) 64 ⌝ }
+{
+    for k in 0..64usize {
+        actions[at + k] = bytes[k];
+    }
+}
+
+// Puts 128 words from a place on.
+fn put_words(owners: &mut [u64], at: usize, words: &[u64; 128])
+    requires { ⌜ (at + 128 ≤ length (now owners)) × (length (now words) ≡ 128) ⌝ }
+    ensures { λ r. ⌜ now (owners .exit) ≡ paste (now (owners .entry)) at (now (words .entry)) 128 ⌝ }
+{
+    for k in 0..128usize {
+        owners[at + k] = words[k];
+    }
+}
+
+// Puts parents and states into an image.
+fn put_actions<'a>(actions: &mut [u8], parents: &'a [u8; 64], states: &'a [u8; 64])
+    requires { ⌜ (length (now actions) ≡ 128) × (length (now parents) ≡ 64) × (length (now states) ≡ 64) ⌝ }
+    ensures { λ r. ⌜ now (actions .exit) ≡ now (parents .entry) ++ now (states .entry) ⌝ }
+{
+    put_bytes(actions, 0, parents);
+    put_bytes(actions, 64, states);
+}
+
+// Puts read sets and write sets into an image.
+fn put_owners<'a>(owners: &mut [u64], reads: &'a [u64; 128], writes: &'a [u64; 128])
+    requires { ⌜ (length (now owners) ≡ 256) × (length (now reads) ≡ 128) × (length (now writes) ≡ 128) ⌝ }
+    ensures { λ r. ⌜ now (owners .exit) ≡ now (reads .entry) ++ now (writes .entry) ⌝ }
+{
+    put_words(owners, 0, reads);
+    put_words(owners, 128, writes);
+}
+
+// The answer to a code on an image that isn't sound.
+fn unsound_answer(code: u8) -> u8
+    ensures { λ r. ⌜ r ≡ unsoundAnswer code ⌝ }
+{
+    if code == 0 {
+        return MALFORMED;
+    }
+    if code > 6 {
+        return MALFORMED;
+    }
+    UNSOUND
+}
+
+// The request on slices that are an image: parents and states are copied, which are short, and the words are used in place.
+fn on_image(actions: &mut [u8], owners: &mut [u64], code: u8, x: u32, y: u32) -> u8
+    requires { ⌜ isImage (now actions) (now owners) ≡ true ⌝ }
+    ensures { λ r. ⌜
+        Requested (framed code x y) (now (actions .entry)) (now (owners .entry)) r (now (actions .exit)) (now (owners .exit))
+        ⌝ }
+{
+    let mut parents = bytes_from(actions, 0);
+    let mut states = bytes_from(actions, 64);
+    if !sound(&parents, &states, standing(owners)) {
+        return unsound_answer(code);
+    }
+    let answer = engine::request(&mut parents, &mut states, owners, code, x, y);
+    if answer == ACCEPTED {
+        put_actions(actions, &parents, &states);
+    }
+    answer
+}
+
+// Makes the request of a code and two numbers, a spare one ignored, on an image in place.
+pub fn request(actions: &mut [u8], owners: &mut [u64], code: u8, x: u32, y: u32) -> u8
+    ensures { λ r. ⌜
+        Requested (framed code x y) (now (actions .entry)) (now (owners .entry)) r (now (actions .exit)) (now (owners .exit))
+        ⌝ }
+{
+    if !is_image(actions, owners) {
+        return UNSOUND;
+    }
+    on_image(actions, owners, code, x, y)
+}
+
+// The record of an image, and an empty one of slices that are none.
+pub fn bench_of(actions: &[u8], owners: &[u64]) -> Bench
+    ensures { λ r. ⌜ r ≡ recordOf (now (actions .entry)) (now (owners .entry)) ⌝ }
+{
+    if !is_image(actions, owners) {
+        return Bench {
+            parents: [0u8; 64],
+            states: [0u8; 64],
+            reads: [0u64; 128],
+            writes: [0u64; 128],
+        };
+    }
+    Bench {
+        parents: bytes_from(actions, 0),
+        states: bytes_from(actions, 64),
+        reads: words_from(owners, 0),
+        writes: words_from(owners, 128),
+    }
+}
+
+// Writes a record into an image; slices that are none stay as they are.
+pub fn store(bench: Bench, actions: &mut [u8], owners: &mut [u64])
+    ensures { λ r. ⌜ StoredAs bench (now (actions .entry)) (now (owners .entry)) (now (actions .exit)) (now (owners .exit)) ⌝ }
+{
+    if is_image(actions, owners) {
+        put_actions(actions, &bench.parents, &bench.states);
+        put_owners(owners, &bench.reads, &bench.writes);
+    }
+}

@@ -1,0 +1,4 @@
+pub mod Arrays
+pub mod Rows
+pub mod Changes
+pub mod Steps

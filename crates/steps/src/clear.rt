@@ -1,0 +1,31 @@
+// Numbers that have gone leave the arrays of parents and states, and the sets.
+ghost use mathlib.Core.Path.{_≡_};
+ghost use Rattle.steps.specs.Changes.{bytesLeft, setsLeft};
+
+// The numbers that have gone leave an array of 64 bytes.
+pub fn clear_bytes(bytes: &mut [u8; 64], gone: u64)
+    ensures { λ r. ⌜ now (bytes .exit) ≡ bytesLeft gone (now (bytes .entry)) ⌝ }
+{
+    let mut rest = gone;
+    while rest != 0 {
+        let k = sets::least(rest);
+        bytes[k] = 0;
+        rest = sets::without_least(rest);
+    }
+}
+
+// The numbers that have gone leave all sets of a slice.
+pub fn clear_words(words: &mut [u64], gone: u64)
+    ensures { λ r. ⌜ now (words .exit) ≡ setsLeft gone (now (words .entry)) ⌝ }
+{
+    for i in 0..words.len() {
+        words[i] = sets::difference(words[i], gone);
+    }
+}
+
+// The numbers that have gone leave 128 sets.
+pub fn clear_sets(words: &mut [u64; 128], gone: u64)
+    ensures { λ r. ⌜ now (words .exit) ≡ setsLeft gone (now (words .entry)) ⌝ }
+{
+    clear_words(words, gone);
+}

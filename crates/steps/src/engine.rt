@@ -1,0 +1,157 @@
+// Requests in place, on parents, states and one slice of owner sets: the read sets of the 128 instruments and then the write sets. No array is copied, and none is
+// tested.
+use crate::ACTIONS;
+use crate::clear::clear_bytes;
+use crate::clear::clear_words;
+use crate::rows::ask_row;
+use crate::rows::end_row;
+use crate::rows::open_row;
+use crate::words::conflicting;
+use crate::words::join;
+use crate::words::place;
+use crate::words::word_at;
+use marks::answers::ACCEPTED;
+use marks::codes::ABORT;
+use marks::codes::COMMIT;
+use marks::codes::OPEN_SUB;
+use marks::codes::READ;
+use marks::codes::WRITE;
+use marks::states::COMMITTED;
+use marks::states::RUNNING;
+use tree::children::running_child;
+use tree::family::family_of;
+ghost use mathlib.Core.List.{[]};
+ghost use mathlib.Core.Path.{_≡_};
+ghost use Prim.Native.Nat.{_%_};
+ghost use lib.ListN.{getD};
+ghost use Rattle.views.specs.Arrays.{freesBy};
+ghost use Rattle.steps.specs.Arrays.{lent};
+ghost use Rattle.steps.specs.Changes.{freed, familyFreed};
+ghost use Rattle.steps.specs.Steps.{Opened, Asked, Ended, Requested};
+
+// Open top or open sub, by the frame's code. No set is looked at.
+pub fn open(parents: &mut [u8; 64], states: &mut [u8; 64], code: u8, x: u32, y: u32) -> u8
+    ensures { λ r. ⌜
+        Opened code x y (lent (now (parents .entry)) (now (states .entry)) []) r
+        (lent (now (parents .exit)) (now (states .exit)) [])
+        ⌝ }
+{
+    let answer = open_row(states, code, x, y);
+    if answer != ACCEPTED {
+        return answer;
+    }
+    let at = (x % ACTIONS) as usize;
+    states[at] = RUNNING;
+    if code == OPEN_SUB {
+        parents[at] = (y % ACTIONS) as u8 + 1;
+    }
+    answer
+}
+
+// Read or write, where `busy` says whether a has a running child, and `line` is a with its ancestors, or empty where they are not known. Both sets of the instrument
+// are loaded, and the place to store is worked out: nobody can guess which of the two modes comes next.
+pub fn ask<'a>(
+    parents: &'a [u8; 64],
+    states: &'a [u8; 64],
+    owners: &mut [u64],
+    busy: bool,
+    line: u64,
+    is_write: bool,
+    a: u32,
+    i: u32,
+) -> u8
+    ensures { λ r. ⌜
+        Asked «is_write» «busy» line a i (lent (now (parents .entry)) (now (states .entry)) (now (owners .entry))) r
+        (lent (now (parents .entry)) (now (states .entry)) (now (owners .exit)))
+        ⌝ }
+{
+    let readers = word_at(owners, place(false, i));
+    let writers = word_at(owners, place(true, i));
+    let held = conflicting(is_write, readers, writers);
+    let answer = ask_row(parents, states, busy, line, held, a, i);
+    if answer == ACCEPTED {
+        join(owners, place(is_write, i), (a % ACTIONS) as usize);
+    }
+    answer
+}
+
+// The numbers that have gone become free and leave all sets.
+pub fn free(parents: &mut [u8; 64], states: &mut [u8; 64], owners: &mut [u64], gone: u64)
+    ensures { λ r. ⌜
+        lent (now (parents .exit)) (now (states .exit)) (now (owners .exit))
+        ≡ freed gone (lent (now (parents .entry)) (now (states .entry)) (now (owners .entry)))
+        ⌝ }
+{
+    clear_bytes(parents, gone);
+    clear_bytes(states, gone);
+    clear_words(owners, gone);
+}
+
+// Whether a commit or an abort, where it is accepted, frees numbers: an abort, or the commit of a number that has no parent.
+pub fn frees(parents: &[u8; 64], code: u8, x: u32) -> bool
+    ensures { λ r. ⌜ r ≡ freesBy code (getD (now (parents .entry)) (x % 64) 0) ⌝ }
+{
+    (code == ABORT) | (parents[(x % ACTIONS) as usize] == 0)
+}
+
+// Commit or abort, by the frame's code, where `busy` says whether x has a running child, and `gone` is its family if one is to be freed.
+pub fn end(
+    parents: &mut [u8; 64],
+    states: &mut [u8; 64],
+    owners: &mut [u64],
+    busy: bool,
+    gone: u64,
+    code: u8,
+    x: u32,
+) -> u8
+    ensures { λ r. ⌜
+        Ended code «busy» gone x (lent (now (parents .entry)) (now (states .entry)) (now (owners .entry))) r
+        (lent (now (parents .exit)) (now (states .exit)) (now (owners .exit)))
+        ⌝ }
+{
+    let answer = end_row(states, busy, code, x);
+    if answer != ACCEPTED {
+        return answer;
+    }
+    if frees(parents, code, x) {
+        free(parents, states, owners, gone);
+        return answer;
+    }
+    states[(x % ACTIONS) as usize] = COMMITTED;
+    answer
+}
+
+// The family that a commit or an abort frees, and nobody where it frees none.
+fn family_freed(parents: &[u8; 64], code: u8, x: u32) -> u64
+    ensures { λ r. ⌜ r ≡ familyFreed code x (now (parents .entry)) ⌝ }
+{
+    if frees(parents, code, x) {
+        return family_of(parents, (x % ACTIONS) as usize);
+    }
+    0
+}
+
+// The request of a frame's code and two numbers, for a caller that keeps nothing beside the arrays; a code that is none of the six is malformed.
+pub fn request(
+    parents: &mut [u8; 64],
+    states: &mut [u8; 64],
+    owners: &mut [u64],
+    code: u8,
+    x: u32,
+    y: u32,
+) -> u8
+    ensures { λ r. ⌜
+        Requested code x y (lent (now (parents .entry)) (now (states .entry)) (now (owners .entry))) r
+        (lent (now (parents .exit)) (now (states .exit)) (now (owners .exit)))
+        ⌝ }
+{
+    if code < READ {
+        return open(parents, states, code, x, y);
+    }
+    let busy = running_child(parents, states, (x % ACTIONS) as u8 + 1);
+    if code < COMMIT {
+        return ask(parents, states, owners, busy, 0, code == WRITE, x, y);
+    }
+    let gone = family_freed(parents, code, x);
+    end(parents, states, owners, busy, gone, code, x)
+}

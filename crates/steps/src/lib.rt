@@ -1,0 +1,10 @@
+// Requests on the arrays of a bench in place, of any bytes and words: each does something definite, which on the arrays of a sound bench is the step of the rules.
+pub mod clear;
+pub mod engine;
+pub mod rows;
+pub mod words;
+
+// How many action numbers there are, and how many instruments.
+pub const ACTIONS: u32 = 64;
+
+pub const INSTRUMENTS: u32 = 128;

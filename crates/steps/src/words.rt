@@ -1,0 +1,47 @@
+// The words of a lent slice of owner sets, whatever its length: the read sets of the 128 instruments and then the write sets.
+use crate::INSTRUMENTS;
+ghost use mathlib.Core.Path.{_≡_};
+ghost use lib.ListN.{getD};
+ghost use Rattle.steps.specs.Arrays.{placeOf};
+ghost use Rattle.steps.specs.Rows.{conflicting};
+ghost use Rattle.steps.specs.Changes.{joinedAt};
+
+// Where the read set of an instrument stands, and its write set.
+pub(crate) fn place(is_write: bool, i: u32) -> usize
+    ensures { λ r. ⌜ r ≡ placeOf «is_write» i ⌝ }
+{
+    let at = (i % INSTRUMENTS) as usize;
+    if is_write {
+        return 128 + at;
+    }
+    at
+}
+
+// The numbers in the sets of the modes that conflict with a read or a write.
+pub fn conflicting(is_write: bool, readers: u64, writers: u64) -> u64
+    ensures { λ r. ⌜ r ≡ conflicting «is_write» readers writers ⌝ }
+{
+    if is_write {
+        return sets::union(readers, writers);
+    }
+    writers
+}
+
+// The set at a place; past the end it is empty.
+pub(crate) fn word_at(words: &[u64], at: usize) -> u64
+    ensures { λ r. ⌜ r ≡ getD (now (words .entry)) at 0 ⌝ }
+{
+    if at < words.len() {
+        return words[at];
+    }
+    0
+}
+
+// k joins the set at a place; past the end there is none.
+pub(crate) fn join(words: &mut [u64], at: usize, k: usize)
+    ensures { λ r. ⌜ now (words .exit) ≡ joinedAt (now (words .entry)) at k ⌝ }
+{
+    if at < words.len() {
+        words[at] = sets::with(words[at], k);
+    }
+}

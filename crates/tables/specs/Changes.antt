@@ -1,0 +1,29 @@
+-- Arrays after a loop over them, and a table after the stores of a request.
+use mathlib.Core.Bool.{Bool}
+use mathlib.Core.List.{List}
+use mathlib.Core.Path.{_≡_}
+use Prim.Native.Nat.{ℕ, _+_}
+use lib.ListN.{length, getD, set}
+use Rattle.rules.specs.Tests.{if_then_else_}
+use Rattle.tables.specs.Table.{Table}
+
+-- what is left of number k's byte when numbers have gone
+abbrev pub kept : (ℕ → Bool) → ℕ → ℕ → ℕ
+kept gone k byte = if gone k then 0 else byte
+
+-- An array of numbers after each was replaced: as long as before, and at place k what `at k` makes of the number there.
+pub record Changed (at : ℕ → ℕ → ℕ) (before after : List ℕ) : Type 0 where
+  pub long : length after ≡ length before
+  pub each : (k : ℕ) → getD after k 0 ≡ at k (getD before k 0)
+
+-- the table with another state's byte of number k
+abbrev pub marked : Table → ℕ → ℕ → Table
+marked t k byte = record { parents = t .parents; states = set (t .states) k byte; sets = t .sets }
+
+-- the table with number k running under p
+abbrev pub placed : Table → ℕ → ℕ → Table
+placed t k p = record { parents = set (t .parents) k (p + 1); states = set (t .states) k 1; sets = t .sets }
+
+-- the table with other sets
+abbrev pub withSets : Table → (ℕ → List ℕ) → Table
+withSets t sets = record { parents = t .parents; states = t .states; sets = sets }

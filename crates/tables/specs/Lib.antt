@@ -1,0 +1,11 @@
+pub mod Table
+pub mod Tree
+pub mod Owners
+pub mod Climbs
+pub mod Families
+pub mod Reach
+pub mod Soundness
+pub mod Changes
+pub mod Index
+pub mod Steps
+pub mod OneWord

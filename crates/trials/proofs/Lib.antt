@@ -1,0 +1,3 @@
+-- Steps: one step more, as a loop that counts up takes it. Sameness: lists and records that are the same at every place are the same.
+pub mod Sameness
+pub mod Steps

@@ -1,0 +1,29 @@
+-- The parts of the soundness test on 64 actions, and what they compute together.
+use mathlib.Core.Bool.{Bool, _&&_}
+use mathlib.Core.List.{List}
+use Prim.Native.Nat.{ℕ}
+use Rattle.rules.specs.Tests.{all}
+use Rattle.rules.specs.Sound.{reachesTop}
+use Rattle.tables.specs.Tree.{upOf, inUse}
+use Rattle.tables.specs.Owners.{ofMembers}
+use Rattle.tables.specs.Soundness as tables
+use Rattle.tables.specs.Soundness.{permitted}
+use Rattle.tables.specs.Climbs as climbs
+
+-- Number k's bytes by themselves fit.
+abbrev pub bytesFit : List ℕ → List ℕ → ℕ → Bool
+bytesFit = tables.bytesFit 64
+
+-- A table of steps up: from each of 65 places to one of them.
+abbrev pub StepsUp : List ℕ → Type 0
+StepsUp = climbs.StepsUp 64
+
+-- The same after each place took the step of the place that it led to; `left` is 0 where every place leads to the end.
+abbrev pub Jumped : List ℕ → List ℕ → ℕ → Type 0
+Jumped = climbs.Jumped 64
+
+-- What the soundness test computes, where `standing` are the numbers that stand in any set: the bytes fit, no number is what its parent forbids, every
+-- chain of parents ends, and none of those numbers is free.
+abbrev pub soundWith : List ℕ → List ℕ → ℕ → Bool
+soundWith parents states standing =
+    all 64 (bytesFit parents states) && (all 64 (permitted parents states) && (all 64 (reachesTop 63 (upOf parents)) && ofMembers 64 standing (inUse states)))
