@@ -1,4 +1,4 @@
--- The end of a line: the answer is small, a frame's code says whether there is a request, and the arrays are left known. Assumes nothing.
+-- The end of a line: the answer is small, and the arrays are left known. Assumes nothing.
 use mathlib.Core.Path.{_≡_, sym, _∙_, ap}
 use mathlib.Core.Bool.{Bool, true, false, not, _||_, cond}
 use mathlib.Core.List.{List}

@@ -1,5 +1,5 @@
 -- A bench as Moss's rules see it: what each number is, its parent, and who stands in which set. Lists and machine words come in only where a
--- record is read as one of these (crate `bench`).
+-- record is read as one of these (crates `tables` and `views`).
 use mathlib.Core.Bool.{Bool, true, false}
 use mathlib.Core.Option.{Option, none, some}
 use Prim.Native.Nat.{ℕ}

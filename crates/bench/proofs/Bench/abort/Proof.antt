@@ -1,4 +1,4 @@
--- `Bench::abort` meets its contract: where the request is accepted, the family that `family` gathers has left all four arrays; where it is refused,
+-- `Bench::abort` meets its contract: where the request is accepted, the family that `family_of` gathers has left all four arrays; where it is refused,
 -- the record is as it came. Assumes nothing.
 use mathlib.Core.Path.{_≡_}
 use Prim.Native.Nat.{_%_}

@@ -1,4 +1,4 @@
--- `Bench::without_family` meets its contract: the set that `family` gathers is that of a's family, and its numbers have left all four arrays.
+-- `Bench::without_family` meets its contract: the set that `family_of` gathers is that of a's family, and its numbers have left all four arrays.
 -- Assumes nothing.
 use mathlib.Core.Path.{_≡_}
 use borrow.Author.Needs.{needs}
