@@ -2,7 +2,7 @@
 // it was lent the first ones, are as they were, and the sum of the whole buffer.
 use crate::benches;
 use bench::Bench;
-use saved::Saved;
+use saving::Saved;
 use trials::show::count;
 use trials::show::last_sum;
 use trials::sums::folded_bytes;

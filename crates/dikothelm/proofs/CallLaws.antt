@@ -9,7 +9,7 @@ use Rattle.rules.specs.ReadWrite.{readWrite}
 use Rattle.bench.specs.declared.Bench.{Bench}
 use Rattle.bench.specs.Record.{viewed}
 use Rattle.image.specs.Image.{isImage, imageView, recordOf, StoredAs}
-use Rattle.saved.specs.declared.Saved.{Saved}
+use Rattle.saving.specs.declared.Saved.{Saved}
 use Rattle.saved.specs.Saved.{savedAs, sizedAs, bufferAfter}
 use Rattle.dikothelm.specs.Calls.{Replaced, soundAnswer, SavedAs, SizeTold}
 

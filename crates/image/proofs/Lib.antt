@@ -1,6 +1,4 @@
--- Copies: loops that copy between a slice and an array.
 -- Images: the parents and states of an image, and what a request leaves in it.
 -- UniqueImages: a request on an image has one result.
-pub mod Copies
 pub mod Images
 pub mod UniqueImages

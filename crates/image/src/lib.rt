@@ -1,6 +1,8 @@
 // A bench's image, as a C caller lends it: 128 bytes, the parents of the 64 numbers and then their states, and 256 words, the read sets of the 128
 // instruments and then the write sets. Slices of other lengths are no image.
 use bench::Bench;
+use copies::put_words;
+use copies::words_from;
 use marks::answers::ACCEPTED;
 use marks::answers::MALFORMED;
 use marks::answers::UNSOUND;
@@ -12,7 +14,7 @@ ghost use mathlib.Core.List.{_++_};
 ghost use mathlib.Core.Bool.{true};
 ghost use Prim.Native.Nat.{_+_, _≤_};
 ghost use lib.ListN.{length, take, drop};
-ghost use lib.Seq.{paste};
+ghost use lib.Seq.{sets};
 ghost use Rattle.image.specs.Image.{isImage, recordOf, StoredAs, unsoundAnswer, Requested};
 ghost use Rattle.rules.specs.Frames.{framed};
 
@@ -35,35 +37,13 @@ fn bytes_from(actions: &[u8], at: usize) -> [u8; 64]
     bytes
 }
 
-// 128 words from a place on.
-fn words_from(owners: &[u64], at: usize) -> [u64; 128]
-    requires { ⌜ at + 128 ≤ length (now owners) ⌝ }
-    ensures { λ r. ⌜ r ≡ take 128 (drop at (now (owners .entry))) ⌝ }
-{
-    let mut words = [0u64; 128];
-    for k in 0..128usize {
-        words[k] = owners[at + k];
-    }
-    words
-}
-
 // Puts 64 bytes from a place on.
 fn put_bytes(actions: &mut [u8], at: usize, bytes: &[u8; 64])
     requires { ⌜ (at + 64 ≤ length (now actions)) × (length (now bytes) ≡ 64) ⌝ }
-    ensures { λ r. ⌜ now (actions .exit) ≡ paste (now (actions .entry)) at (now (bytes .entry)) 64 ⌝ }
+    ensures { λ r. ⌜ now (actions .exit) ≡ sets (now (actions .entry)) at (now (bytes .entry)) ⌝ }
 {
     for k in 0..64usize {
         actions[at + k] = bytes[k];
-    }
-}
-
-// Puts 128 words from a place on.
-fn put_words(owners: &mut [u64], at: usize, words: &[u64; 128])
-    requires { ⌜ (at + 128 ≤ length (now owners)) × (length (now words) ≡ 128) ⌝ }
-    ensures { λ r. ⌜ now (owners .exit) ≡ paste (now (owners .entry)) at (now (words .entry)) 128 ⌝ }
-{
-    for k in 0..128usize {
-        owners[at + k] = words[k];
     }
 }
 

@@ -26,3 +26,6 @@ pub const UNSOUND: u8 = 7;
 
 // The line, the frame or the saved text is malformed.
 pub const MALFORMED: u8 = 8;
+
+// Save: the buffer is shorter than the text.
+pub const NO_ROOM: u8 = 9;

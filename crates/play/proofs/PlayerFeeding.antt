@@ -14,19 +14,23 @@ use Rattle.rules.specs.Requests.{Request}
 use Rattle.rules.proofs.Tests.{clash}
 use Rattle.lines.specs.Lines.{answerText}
 use Rattle.lines.specs.Feeding.{saidBy, takenBy, FedBytesBy}
+use Rattle.lines.specs.NextEnds.{EndsAs}
 use Rattle.steps.proofs.Halves.{read-set-at, write-set-at}
 use Rattle.naming.specs.declared.Reason.{Reason}
 use Rattle.naming.specs.declared.text.Text.{Text}
 use Rattle.naming.specs.Text.{reasonText, textOf}
 use Rattle.naming.proofs.Telling.{told-after}
 use Rattle.naming.proofs.Texts.{text-short, reason-short, text-front}
-use Rattle.lines.proofs.FeedLaws.{Within, said-short, taken-by-fits}
+use Rattle.frames.specs.declared.Frame.{Frame}
+use Rattle.frames.specs.Frames.{requestIn}
+use Rattle.index.specs.Tables.{Table}
+use Rattle.lines.proofs.FeedLaws.{Within, said-short, taken-by-fits, line-fed}
+use Rattle.lines.proofs.LineEnds.{ended-small}
+use Rattle.steps.specs.Arrays.{readSets, writeSets}
 use Rattle.play.specs.declared.Player.{Player}
 use Rattle.play.specs.declared.Fed.{Fed}
-use Rattle.play.specs.declared.frames.Frame.{Frame}
 use Rattle.play.specs.Feeding.{feeding, FedAsBy, sayBy, widthBy, PutAs}
-use Rattle.play.specs.Frames.{requestIn}
-use Rattle.play.specs.Tables.{Table, feedingIn, LineDone}
+use Rattle.play.specs.Known.{feedingIn, LineDone}
 use Rattle.play.specs.Telling.{textBy}
 
 pub fed-as : {say : rules.Bench → Option Request → List ℕ} {width : ℕ} {p : Player} {input out : List ℕ} {r : Fed} {out' : List ℕ} → Within say width → r .used ≡ takenBy width input out → FedBytesBy say (feeding p) (take (r .used) input) out 0 (feeding (r .player)) out' (r .written) → FedAsBy say width p input out r out'
@@ -78,6 +82,16 @@ text-said true {after = after} f m =
     rw (← read-set-at (after .owners) (f .y % 128) at, ← write-set-at (after .owners) (f .y % 128) at)
     (ap reasonText (told-after (f .code) (f .x) (f .y) (m .ended)))
 text-said false f m = ap (λ o. answerText (o .answer)) (m .ended .outcome)
+
+-- the end of a line: its answer is a digit, and where its text is put it is fed
+pub done-small : (before after : Table) {ok : Bool} {r : Option Request} {answer : ℕ} → LineDone ok r before answer after → answer < 16
+done-small before after m =
+    ended-small {parents = before .parents} {states = before .states} {reads = readSets (before .owners)} {writes = writeSets (before .owners)} (m .ended)
+
+pub line-said : (telling : Bool) (before after : Table) {ok : Bool} {answer count value : ℕ} {bytes out out' : List ℕ} {at at' : ℕ} (f : Frame) → EndsAs count value bytes (requestIn f) → LineDone ok (requestIn f) before answer after → PutAs (textBy telling (after .parents) (after .states) (after .owners) f answer) out at out' at' → FedBytesBy (sayBy telling) (feedingIn before count value) bytes out at (feedingIn after 0 0) out' at'
+line-said telling before after f ends m put =
+    line-fed {parents = before .parents} {states = before .states} {reads = readSets (before .owners)} {writes = writeSets (before .owners)}
+    ends (m .ended) (text-said telling {before = before} {after = after} f m) (put .wrote) (put .upTo)
 
 -- the room for a line, by whether it is explained
 pub told-room : (telling : Bool) (at long : ℕ) → telling ≡ true → at + widthBy telling ≤ long → at + 14 ≤ long

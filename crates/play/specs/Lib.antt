@@ -1,6 +1,4 @@
-pub mod Frames
-pub mod Ends
-pub mod Tables
+pub mod Known
 pub mod Places
 pub mod Telling
 pub mod Feeding

@@ -8,7 +8,8 @@ use Rattle.lines.specs.Feeding.{Feeding}
 use Rattle.lines.specs.NextEnds.{FedOnBy}
 use Rattle.play.specs.declared.place.Place.{Place}
 use Rattle.play.specs.Feeding.{sayBy, widthBy}
-use Rattle.play.specs.Tables.{Table, feedingIn, KnownTable}
+use Rattle.index.specs.Tables.{Table}
+use Rattle.play.specs.Known.{feedingIn, KnownTable}
 
 -- what the table and the line that has begun at a place stand for
 abbrev pub feedingAt : Table → Place → Feeding

@@ -9,7 +9,7 @@ use Rattle.naming.specs.declared.Reason.{Reason}
 use Rattle.naming.specs.Blocking.{namedIn}
 use Rattle.naming.specs.Text.{reasonText}
 use Rattle.steps.specs.Arrays.{placeOf}
-use Rattle.play.specs.declared.frames.Frame.{Frame}
+use Rattle.frames.specs.declared.Frame.{Frame}
 
 -- whom the answer to a frame names
 abbrev pub reasonIn : List ℕ → List ℕ → List ℕ → Frame → ℕ → Reason

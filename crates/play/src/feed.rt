@@ -1,14 +1,14 @@
 // Feeding the trace player: bytes of lines in, answers out, or answers with whom they name.
 use crate::Fed;
 use crate::Player;
-use crate::copies::WRITES;
-use crate::copies::owners_of;
-use crate::copies::sets_from;
-use crate::index::index_of;
+use crate::owners::WRITES;
+use crate::owners::owners_of;
 use crate::place::Place;
 use crate::place::feed_bytes;
 use bench::Bench;
 use bench::answers::sound;
+use copies::words_from;
+use index::index_of;
 ghost use mathlib.Core.Path.{_≡_};
 ghost use Rattle.lines.specs.Feeding.{takenBy};
 ghost use Rattle.play.specs.Feeding.{FedAs, ExplainedAs, FedAsBy, sayBy, widthBy};
@@ -67,8 +67,8 @@ impl Player {
                 bench: Bench {
                     parents: parents,
                     states: states,
-                    reads: sets_from(&owners, 0),
-                    writes: sets_from(&owners, WRITES),
+                    reads: words_from(&owners, 0),
+                    writes: words_from(&owners, WRITES),
                 },
                 count: place.count,
                 value: place.value,

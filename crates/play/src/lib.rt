@@ -1,13 +1,9 @@
 // The trace player: bytes of lines in, answers out, from an empty bench on.
-mod copies;
-mod ends;
 mod feed;
 mod finish;
-mod frames;
-mod index;
+mod owners;
 mod place;
 mod put;
-mod requests;
 
 use bench::Bench;
 ghost use mathlib.Core.Path.{_≡_};

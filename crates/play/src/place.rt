@@ -1,10 +1,10 @@
 // Bytes of a chunk, fed one by one or a whole line at once. The record's soundness is tested once for each chunk and carried from line to line.
-use crate::ends::next_end;
-use crate::frames::Frame;
-use crate::frames::count_after;
-use crate::frames::value_after;
 use crate::put::put_line;
-use crate::requests::request;
+use frames::Frame;
+use frames::count_after;
+use frames::ends::next_end;
+use frames::value_after;
+use index::requests::request;
 use marks::answers::MALFORMED;
 use marks::answers::UNSOUND;
 ghost use mathlib.Core.Path.{_≡_};
@@ -13,8 +13,9 @@ ghost use lib.ListN.{length};
 ghost use Rattle.digits.specs.Digits.{ValuesOfBytes};
 ghost use Rattle.lines.specs.Feeding.{FedBytesBy};
 ghost use Rattle.play.specs.Feeding.{sayBy, widthBy};
-ghost use Rattle.play.specs.Frames.{requestIn};
-ghost use Rattle.play.specs.Tables.{table, KnownTable, LineDone};
+ghost use Rattle.frames.specs.Frames.{requestIn};
+ghost use Rattle.index.specs.Tables.{table};
+ghost use Rattle.play.specs.Known.{KnownTable, LineDone};
 ghost use Rattle.play.specs.Places.{feedingAt, GoesOn, FedTo};
 
 // What is known of a line that has begun, how much has been taken and written, whether lines are told with their reasons, and whether the bench is sound.
@@ -46,7 +47,7 @@ fn end_line(
         ⌝ }
 {
     if sound {
-        return request(parents, states, owners, index, frame);
+        return request(parents, states, owners, index, frame.code, frame.x, frame.y);
     }
     if frame.code == 0 {
         return MALFORMED;

@@ -1,8 +1,8 @@
 // What is written for a line that has ended.
-use crate::copies::WRITES;
-use crate::frames::Frame;
+use crate::owners::WRITES;
 use crate::place::Place;
 use bench::Bench;
+use frames::Frame;
 use naming::named;
 use naming::text::Text;
 use naming::text::text_of;

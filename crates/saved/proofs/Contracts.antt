@@ -1,7 +1,7 @@
 -- What a caller learns from the contracts of `save` and `load`, as the language reads them, is what the round trips start from. A contract that says less is
 -- refused here. Assumes nothing.
 use denote.Ref.{now}
-use Rattle.saved.specs.declared.Saved.{Saved}
+use Rattle.saving.specs.declared.Saved.{Saved}
 use Rattle.saved.specs.declared.Loaded.{Loaded}
 use Rattle.saved.specs.Saved.{Saves, Loads}
 use Rattle.saved.proofs.save.Reads as of-save

@@ -1,4 +1,4 @@
--- The round trips of what `save` and `load` return: what is saved into a buffer loads as the bench, what loads saves as the text, and a refused load gives the
+-- The round trips of the definitions, and of what `save` and `load` return: what is saved into a buffer loads as the bench, what loads saves as the text, and a refused load gives the
 -- empty bench. Assumes nothing.
 use mathlib.Core.Path.{_≡_, refl, sym, _∙_, ap}
 use mathlib.Core.Bool.{true}
@@ -6,6 +6,7 @@ use mathlib.Core.List.{List, _++_}
 use mathlib.Core.Option.{Option, none, some}
 use Prim.Native.Nat.{ℕ, _≤_}
 use native.Mathlib.Omega.{arith}
+use borrow.Author.Tests.{le-ltb}
 use lib.Dec.{ltb}
 use lib.ListN.{length, take, drop}
 use lib.Seq.{take-at}
@@ -17,12 +18,36 @@ use Rattle.bench.specs.Record.{viewed}
 use Rattle.bench.specs.Plays.{IsEmpty}
 use Rattle.bench.proofs.Unique.{Fits, zeros-fit, empty-unique}
 use Rattle.views.proofs.Words.{empty-shown}
-use Rattle.saved.specs.declared.Saved.{Saved}
+use Rattle.saving.specs.declared.Saved.{Saved}
 use Rattle.saved.specs.declared.Loaded.{Loaded}
-use Rattle.saved.specs.Text.{textOf}
-use Rattle.saved.specs.Shape.{recordIn}
+use Rattle.forms.specs.Text.{textOf}
+use Rattle.forms.specs.WellShaped.{recordIn}
 use Rattle.saved.specs.Saved.{savedAs, bufferAfter, emptyRecord, loadedFrom, loadOf, Saves, Loads}
-use Rattle.saved.proofs.RoundTrips.{saved-loads, loaded-saves}
+use Rattle.forms.proofs.RoundTrips.{text-says-record, record-writes-text}
+
+-- ---- of the definitions
+
+-- A saved sound bench loads as itself.
+pub saved-loads : (b : Bench) → Fits b → sound readWrite (viewed b) ≡ true → loadOf (textOf b) ≡ record { bench = b; answer = 0 }
+unfolding loadOf
+saved-loads b fits ok = rw (text-says-record b fits ok, ok)
+
+-- where a text loads, it says the record, and the record is sound
+loads-sound : (o : Option Bench) (b : Bench) → loadedFrom o ≡ record { bench = b; answer = 0 } → (o ≡ some b) × (sound readWrite (viewed b) ≡ true)
+loads-sound none b e = absurd (let z : _≡_ {A = ℕ} 8 0 = ap (λ l. l .answer) e in omega arith)
+loads-sound (some c) b e =
+    by-bool (sound readWrite (viewed c))
+    (λ h. let same : c ≡ b = ap (λ l. l .bench) (rw h at e) in (ap some same, ap (λ x. sound readWrite (viewed x)) (sym same) ∙ h))
+    (λ h. absurd (let z : _≡_ {A = ℕ} 7 0 = ap (λ l. l .answer) (rw h at e) in omega arith))
+
+-- An accepted text saves as itself, into any buffer that has room.
+pub loaded-saves : (text out : List ℕ) (b : Bench) → loadOf text ≡ record { bench = b; answer = 0 } → length text ≤ length out → (savedAs b (length out) ≡ record { answer = 0; count = length text }) × (bufferAfter b out ≡ text ++ drop (length text) out)
+unfolding loadOf savedAs bufferAfter
+loaded-saves text out b e room =
+    let loaded = loads-sound (recordIn text) b e in
+    rw (loaded .1, record-writes-text text b (loaded .0), le-ltb (length out) (length text) room) (refl, refl)
+
+-- ---- of what the functions return
 
 -- where a save is accepted, the bench is sound, and its text stands at the buffer's start and is as long as the count says
 record Accepted (b : Bench) (out : List ℕ) (r : Saved) (after : List ℕ) : Type 0 where

@@ -15,7 +15,7 @@ use Rattle.rules.specs.Tests.{all}
 use Rattle.rules.specs.Sound.{standsNowhere, reachesTop, sound}
 use Rattle.bench.specs.declared.Bench.{Bench}
 use Rattle.saved.specs.declared.Loaded.{Loaded}
-use Rattle.saved.specs.Shape.{digitsAt, numberAt, actionAt, instrumentAt, takeFrom, actionsIn, instrumentsIn, recordIn}
+use Rattle.forms.specs.WellShaped.{digitsAt, numberAt, standsAt, takeFrom, actionsIn, instrumentsIn, recordIn}
 use Rattle.saved.specs.Saved.{emptyRecord, loadOf}
 
 -- ---- texts, written as their lines
@@ -30,7 +30,7 @@ bytes (line ∷ lines) = bytesOf line ++ bytes lines
 
 -- what a text loads as
 loads : List String → Loaded
-unfolding bytes bytesOf recordIn actionsIn instrumentsIn takeFrom actionAt instrumentAt numberAt digitsAt all loadOf sound reachesTop standsNowhere member
+unfolding bytes bytesOf recordIn actionsIn instrumentsIn takeFrom standsAt numberAt digitsAt all loadOf sound reachesTop standsNowhere member
 loads lines = loadOf (bytes lines)
 
 -- each of these texts gets this answer
@@ -60,7 +60,7 @@ isSome (some b) = true
 
 -- each of these texts says a record
 shaped : List (List String) → Bool
-unfolding bytes bytesOf recordIn actionsIn instrumentsIn takeFrom actionAt instrumentAt numberAt digitsAt all
+unfolding bytes bytesOf recordIn actionsIn instrumentsIn takeFrom standsAt numberAt digitsAt all
 shaped [] = true
 shaped (text ∷ texts) = isSome (recordIn (bytes text)) && shaped texts
 

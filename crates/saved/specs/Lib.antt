@@ -1,5 +1,1 @@
-pub mod Text
-pub mod Shape
 pub mod Saved
-pub mod Written
-pub mod Fields

@@ -1,34 +1,30 @@
 -- Save and load (document 01, "Saved form" and answers 7, 8 and 9).
 use mathlib.Core.Bool.{Bool}
-use mathlib.Core.List.{List, _++_}
+use mathlib.Core.List.{List}
 use mathlib.Core.Option.{Option, none, some}
 use mathlib.Core.Path.{_≡_}
 use Prim.Native.Nat.{ℕ}
-use lib.Dec.{ltb}
-use lib.ListN.{length, drop, replicate}
+use lib.ListN.{length, replicate}
 use Rattle.rules.specs.Tests.{if_then_else_}
 use Rattle.rules.specs.Sound.{sound}
 use Rattle.rules.specs.ReadWrite.{readWrite}
 use Rattle.bench.specs.declared.Bench.{Bench}
 use Rattle.bench.specs.Record.{viewed}
-use Rattle.saved.specs.declared.Saved.{Saved}
+use Rattle.saving.specs.declared.Saved.{Saved}
+use Rattle.saving.specs.Stored.{storedAs, storedIn}
 use Rattle.saved.specs.declared.Loaded.{Loaded}
-use Rattle.saved.specs.Text.{textOf}
-use Rattle.saved.specs.Shape.{recordIn}
+use Rattle.forms.specs.Text.{textOf}
+use Rattle.forms.specs.WellShaped.{recordIn}
 
 -- Save: 7 where the record isn't sound, then 9 where the buffer is shorter than the text; either way 0 bytes. Else 0 and the text's length.
 unfoldable pub savedAs : Bench → ℕ → Saved
 savedAs b room =
-    if sound readWrite (viewed b)
-    then if ltb room (length (textOf b)) then record { answer = 9; count = 0 } else record { answer = 0; count = length (textOf b) }
-    else record { answer = 7; count = 0 }
+    if sound readWrite (viewed b) then storedAs b room else record { answer = 7; count = 0 }
 
 -- The buffer after it: untouched where it is refused, else the text at its start and the bytes behind as they were.
 unfoldable pub bufferAfter : Bench → List ℕ → List ℕ
 bufferAfter b out =
-    if sound readWrite (viewed b)
-    then if ltb (length out) (length (textOf b)) then out else textOf b ++ drop (length (textOf b)) out
-    else out
+    if sound readWrite (viewed b) then storedIn b out else out
 
 -- The size of a bench's text: 7 and 0 where the record isn't sound.
 abbrev pub sizedAs : Bench → Saved

@@ -1,22 +1,11 @@
 // The saved form of a bench: its text, written into a lent buffer and read from lent bytes.
-mod read;
-mod write;
-
 use bench::Bench;
 use marks::answers::ACCEPTED;
 use marks::answers::MALFORMED;
 use marks::answers::UNSOUND;
+use saving::Saved;
 ghost use mathlib.Core.Path.{_≡_};
 ghost use Rattle.saved.specs.Saved.{Saves, sizedAs, emptyRecord, ifSound, Loads};
-
-// Save: the buffer is shorter than the text.
-pub const NO_ROOM: u8 = 9;
-
-// What a save hands back: how many bytes it wrote, and the answer's number.
-pub struct Saved {
-    pub count: usize,
-    pub answer: u8,
-}
 
 // What a load hands back: the bench and the answer's number.
 pub struct Loaded {
@@ -36,7 +25,7 @@ pub fn text_size(b: Bench) -> Saved
         };
     }
     Saved {
-        count: write::text_length(&b.states, &b.reads, &b.writes),
+        count: saving::text_length(&b.states, &b.reads, &b.writes),
         answer: ACCEPTED,
     }
 }
@@ -51,16 +40,7 @@ pub fn save(b: Bench, out: &mut [u8]) -> Saved
             answer: UNSOUND,
         };
     }
-    if out.len() < write::text_length(&b.states, &b.reads, &b.writes) {
-        return Saved {
-            count: 0,
-            answer: NO_ROOM,
-        };
-    }
-    Saved {
-        count: write::write_text(out, &b.parents, &b.states, &b.reads, &b.writes),
-        answer: ACCEPTED,
-    }
+    saving::store_text(out, &b.parents, &b.states, &b.reads, &b.writes)
 }
 
 // What a refused load hands back: an empty bench and the answer's number.
@@ -100,8 +80,8 @@ pub fn load(text: &[u8]) -> Loaded
     let mut states = [0u8; 64];
     let mut reads = [0u64; 128];
     let mut writes = [0u64; 128];
-    let behind = read::read_actions(text, &mut parents, &mut states);
-    let end = read::read_instruments(text, behind, &mut reads, &mut writes);
+    let behind = loading::read_actions(text, &mut parents, &mut states);
+    let end = loading::read_instruments(text, behind, &mut reads, &mut writes);
     if end != text.len() {
         return refused(MALFORMED);
     }

@@ -1,4 +1,7 @@
 // The soundness test: rules 1 to 4 of document 01 on the arrays of a record, in the order in which they are cheapest to refuse.
+mod chains;
+
+use crate::chains::chains_end;
 use marks::bytes::wide;
 use marks::states::COMMITTED;
 use marks::states::FREE;
@@ -9,13 +12,11 @@ ghost use lib.Dec.{leb};
 ghost use lib.ListN.{length, getD};
 ghost use Rattle.sets.specs.Sets.{member};
 ghost use Rattle.rules.specs.Tests.{all, any};
-ghost use Rattle.rules.specs.Sound.{reachesTop};
-ghost use Rattle.tables.specs.Tree.{upOf, inUse};
-ghost use Rattle.views.specs.Soundness.{bytesFit, soundWith, StepsUp, Jumped};
+ghost use Rattle.tables.specs.Tree.{inUse};
+ghost use Rattle.views.specs.Soundness.{bytesFit, soundWith};
 ghost use Rattle.tables.specs.Soundness.{forbidsOf, forbiddenUnder, permitted};
 ghost use Rattle.views.specs.Families.{upperChild, NoParentsFrom};
 ghost use Rattle.tables.specs.Owners.{ofMembers};
-ghost use Rattle.tables.specs.Climbs.{stepFrom};
 
 // Each number's bytes by themselves: rules 1 and 2 but for the sets, and that a parent's byte names a number of the table.
 fn bytes_fit<'a>(parents: &'a [u8; 64], states: &'a [u8; 64]) -> bool
@@ -93,32 +94,6 @@ fn parents_stand<'a>(parents: &'a [u8; 64], states: &'a [u8; 64]) -> bool
     broken == 0
 }
 
-// Each number's parent, by its byte: place 0 is the end that every chain is to reach, and place k + 1 is number k's.
-fn steps_up(parents: &[u8; 64]) -> [u8; 65]
-    ensures { λ r. ⌜ ((x : ℕ) → x < 65 → getD r x 0 ≡ stepFrom (now (parents .entry)) x) ⌝ }
-{
-    let mut up = [0u8; 65];
-    for k in 0..64usize {
-        up[k + 1] = parents[k];
-    }
-    up
-}
-
-// Each number's step up becomes that of the number it leads to, so that steps grow at least twice as long; the result is 0 where every chain
-// has reached the end.
-fn jump(up: &mut [u8; 65]) -> u8
-    requires { ⌜ StepsUp (now up) ⌝ }
-    ensures { λ r. ⌜ Jumped (now (up .entry)) (now (up .exit)) r ⌝ }
-{
-    let mut left = 0u8;
-    for k in 0..65usize {
-        let far = up[wide(up[k])];
-        up[k] = far;
-        left = left | far;
-    }
-    left
-}
-
 // Whether every parent has a lower number than its child, as where actions are opened in the order of their numbers.
 pub fn parents_lower(parents: &[u8; 64]) -> bool
     ensures { λ r. ⌜ r ≡ all 64 (λ k. leb (getD (now (parents .entry)) k 0) k) ⌝ }
@@ -128,23 +103,6 @@ pub fn parents_lower(parents: &[u8; 64]) -> bool
         ok = ok & (wide(parents[k]) <= k);
     }
     ok
-}
-
-// Rule 3's chains: from every number, going from parent to parent reaches a number with none within 63 steps.
-fn chains_end(parents: &[u8; 64]) -> bool
-    requires { ⌜ ((k : ℕ) → k < 64 → getD (now parents) k 0 ≤ 64) ⌝ }
-    ensures { λ r. ⌜ r ≡ all 64 (reachesTop 63 (upOf (now (parents .entry)))) ⌝ }
-{
-    if parents_lower(parents) {
-        return true;
-    }
-    let mut up = steps_up(parents);
-    for round in 0..6usize {
-        if jump(&mut up) == 0 {
-            return true;
-        }
-    }
-    false
 }
 
 // All numbers that stand in one of these sets, of any number of them.

@@ -1,21 +1,22 @@
 -- What the bytes of the arrays say, and the tables that parents' bytes are looked up in.
 use mathlib.Core.Path.{_≡_, refl, sym, _∙_}
-use mathlib.Core.Bool.{false, not}
+use mathlib.Core.Bool.{Bool, true, false, not, _&&_}
 use mathlib.Core.List.{List}
 use mathlib.Core.Option.{none, some, Option·none-ne-some}
 use Prim.Native.Nat.{ℕ, zero, suc, _+_, _-_, _<_, _≤_}
 use native.Mathlib.Numerals.{add-one}
 use native.Mathlib.Omega.{arith}
-use borrow.Author.Tests.{eqb-true, eqb-false, ltb-true, ltb-false, not-false}
+use borrow.Author.Tests.{eqb-true, eqb-false, eq-eqb, ltb-true, ltb-false, not-false}
+use lib.Bits.{bitOr, or-add-and, and-le-l, and-le-r}
 use lib.Dec.{eqb, ltb}
 use lib.ListN.{length, getD, set, replicate, length-set, length-replicate}
 use lib.Seq.{getD-set-same, getD-set-other}
-use Rattle.rules.specs.Tests.{all}
-use Rattle.rules.proofs.Tests.{by-bool, same, all-at, all-by, any-none}
+use Rattle.rules.specs.Tests.{all, from}
+use Rattle.rules.proofs.Tests.{by-bool, clash, same, and-left, and-right, and-both, all-at, all-by, any-none}
 use Rattle.tables.specs.Table.{parentOf}
-use Rattle.tables.specs.Climbs.{shifted}
+use Rattle.tables.specs.Tree.{upOf}
 use Rattle.tables.specs.Families.{upperChild, NoParentsFrom}
-use Rattle.tables.specs.Soundness.{forbidsOf, permitted}
+use Rattle.tables.specs.Soundness.{forbidsOf, shifted, permitted}
 
 -- no parent is byte 0
 pub none-byte : (x : ℕ) → parentOf x ≡ none → x ≡ 0
@@ -27,10 +28,32 @@ pub parent-byte : (x p : ℕ) → parentOf x ≡ some p → x ≡ suc p
 parent-byte zero p e = absurd (Option·none-ne-some p e)
 parent-byte (suc x) p e = cc
 
+-- where no byte is above n, parents are of the n numbers
+pub parents-known : (n : ℕ) (parents : List ℕ) → ((k : ℕ) → k < n → getD parents k 0 ≤ n) → (k p : ℕ) → k < n → upOf parents k ≡ some p → p < n
+parents-known n parents fits k p l e = let byte = parent-byte (getD parents k 0) p e in let low = fits k l in omega arith
+
+-- a byte that names one of some numbers: the number below it
+pub names-one : (numbers : ℕ → Bool) (x : ℕ) → from (parentOf x) false numbers ≡ true → (0 < x) × (numbers (x - 1) ≡ true) × (parentOf x ≡ some (x - 1))
+names-one numbers zero t = clash false t refl
+names-one numbers (suc p) t = let below : suc p - 1 ≡ p = omega arith in rw below (omega arith, t, refl)
+
 pub forbids-committed : (s : ℕ) → (s ≡ 0 → ⊥) → (s ≡ 1 → ⊥) → 1 ≡ forbidsOf s
 forbids-committed zero h g = absurd (h refl)
 forbids-committed (suc zero) h g = absurd (g refl)
 forbids-committed (suc (suc s)) h g = refl
+
+-- two bytes joined are 0 where both are
+pub or-ended : (a b : ℕ) → eqb (bitOr a b) 0 ≡ (eqb a 0 && eqb b 0)
+or-ended a b =
+    same (eqb (bitOr a b) 0) (eqb a 0 && eqb b 0)
+    (λ h.
+    let z = eqb-true (bitOr a b) 0 h in
+    and-both (eqb a 0) (eqb b 0) (eq-eqb a 0 (omega (arith, or-add-and a b, and-le-l a b, and-le-r a b)))
+    (eq-eqb b 0 (omega (arith, or-add-and a b, and-le-l a b, and-le-r a b))))
+    (λ h.
+    let za = eqb-true a 0 (and-left (eqb a 0) (eqb b 0) h) in
+    let zb = eqb-true b 0 (and-right (eqb a 0) (eqb b 0) h) in
+    eq-eqb (bitOr a b) 0 (omega (arith, or-add-and a b)))
 
 -- where none of the upper numbers has a parent, no number from the first of them on has one
 pub no-upper-child : (n first : ℕ) (parents : List ℕ) → upperChild n first parents ≡ false → NoParentsFrom n parents first

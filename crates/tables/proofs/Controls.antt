@@ -1,16 +1,17 @@
 -- Controls: a table of other measures, computed. Three actions, two instruments and three modes, of which 0 goes with 0 and with 1, and all others
 -- conflict. A set is two words of two bits. And laws that are a little stronger than those proved here, refuted.
-use mathlib.Core.Path.{_≡_, refl, sym}
+use mathlib.Core.Path.{_≡_, refl, sym, _∙_}
 use mathlib.Core.Bool.{true, false, _&&_, _||_, and-false, or-false}
 use mathlib.Core.List.{List, [], _∷_}
-use mathlib.Core.Option.{some, Option·none-ne-some}
-use Prim.Native.Nat.{ℕ, zero, suc, _+_, _*_, _/_, _%_, _<_, _≤_}
+use mathlib.Core.Option.{Option, some, Option·none-ne-some}
+use Prim.Native.Nat.{ℕ, zero, suc, _+_, _*_, _/_, _%_, _<_}
 use native.Mathlib.Omega.{arith}
-use borrow.Author.Tests.{ltb-true, ltb-false, ne-eqb}
+use borrow.Author.Tests.{eqb-true, ltb-true, ltb-false, ne-eqb}
 use lib.Dec.{eqb, ltb}
 use lib.ListN.{length, getD, replicate, List·getD-eq-default}
-use Rattle.sets.specs.Sets.{member}
-use Rattle.rules.specs.Tests.{all, any}
+use Rattle.sets.specs.Sets.{member, single}
+use Rattle.sets.proofs.Laws.{member-single}
+use Rattle.rules.specs.Tests.{all, any, from}
 use Rattle.rules.specs.Owners.{above, isAncestor, nearest, heir, isAskerOrAncestor, heirInLine, granted, hasRunningChild}
 use Rattle.rules.specs.Sound.{standsNowhere, reachesTop, sound}
 use Rattle.rules.specs.Requests.{ask, commit, put}
@@ -19,11 +20,11 @@ use Rattle.rules.proofs.Tests.{by-bool, clash}
 use Rattle.tables.specs.Table.{Layout, Table, stateOf, view}
 use Rattle.tables.specs.Tree.{upOf, tree, treeShape, SoundTree, knownUp, inLine, descends, metFrom}
 use Rattle.tables.specs.Owners.{ownersInLine}
-use Rattle.tables.specs.Climbs.{climbed}
+use Rattle.tables.specs.Climbs.{EndOutside}
 use Rattle.tables.specs.Changes.{marked, withSets}
 use Rattle.tables.specs.Steps.{SoundTable, Stepped}
 use Rattle.tables.proofs.Stores.{asked-one}
-use Rattle.tables.proofs.Jumps.{Climbing}
+use Rattle.tables.proofs.Climbs.{Leads, parent, farther, ring-endless, Climbing}
 use Rattle.tables.proofs.InPlace.{ask-in-place, commit-sub-in-place}
 
 -- Number k is bit k % 2 of word k / 2 of its set.
@@ -151,34 +152,16 @@ mode-left-out : ((m a i : ℕ) → granted (small .shape) (view small siblings) 
 unfolding all granted ownersInLine heirInLine heir nearest isAskerOrAncestor isAncestor above member
 mode-left-out h = clash true refl (sym (h 1 1 0))
 
--- Two steps up from each place, after one round of jumps.
-twoUp : List ℕ
-twoUp = 0 ∷ 0 ∷ 0 ∷ 1 ∷ []
-
-climbing-once : Climbing 3 chained twoUp 1
-unfolding twoUp climbed all
-climbing-once =
-    record {
-      steps = record { long = refl; known = known };
-      far = λ x l. (2, omega arith, far x l);
-      short = λ h. refl;
-    }
+-- A climb that stops at a number that isn't known to end tells nothing: here 0 and 1 are each other's parents, and 1 isn't among those left to try.
+stops-at-unknown : ((up : ℕ → Option ℕ) (rest left : ℕ) (at : Option ℕ) → Climbing 2 up rest left at → from at false (member rest) ≡ false → EndOutside 2 up left) → ⊥
+unfolding member single
+stops-at-unknown h = ring-endless ring 0 (farther 1 (parent refl) refl) (h ring 1 0 (some 1) (record { known = known; passed = passed }) refl 0 (omega arith) refl)
   where
-    known : (x : ℕ) → x < 4 → getD twoUp x 0 ≤ 3
-    known zero l = omega arith
-    known (suc zero) l = omega arith
-    known (suc (suc zero)) l = omega arith
-    known (suc (suc (suc zero))) l = omega arith
-    known (suc (suc (suc (suc x)))) l = absurd (omega arith)
+    ring : ℕ → Option ℕ
+    ring = upOf (2 ∷ 1 ∷ [])
 
-    far : (x : ℕ) → x < 4 → climbed 2 chained x ≡ getD twoUp x 0
-    far zero l = refl
-    far (suc zero) l = refl
-    far (suc (suc zero)) l = refl
-    far (suc (suc (suc zero))) l = refl
-    far (suc (suc (suc (suc x)))) l = absurd (omega arith)
+    known : (x : ℕ) → some 1 ≡ some x → x < 2
+    known x e = let one : 1 ≡ x = cc in omega arith
 
--- Rounds that lead fewer steps than the table has numbers don't tell that a chain has no end.
-rounds-too-few : ((parents up : List ℕ) → Climbing 3 parents up 1 → false ≡ all 3 (reachesTop 2 (upOf parents))) → ⊥
-unfolding all reachesTop
-rounds-too-few h = clash true refl (sym (h chained twoUp climbing-once))
+    passed : (j : ℕ) → member 1 j ≡ true → member 0 j ≡ false → Leads ring j (some 1)
+    passed j is out = rw (eqb-true j 0 (sym (member-single 0 j) ∙ is)) (parent refl)

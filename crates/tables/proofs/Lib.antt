@@ -17,13 +17,11 @@ pub mod InPlace
 pub mod SetsKept
 -- The soundness test:
 -- Bytes: the tables that parents' bytes are looked up in.
--- Climbs: steps up between places, and what they say of chains of parents.
--- Jumps: the turn of the loop that makes steps up twice as long, and its rounds.
+-- Climbs: chains of parents that end, found by climbs that stop at numbers known to end.
 -- Members: a test of all members of a set, taken member by member.
 -- SoundParts: the parts of the soundness test make the whole.
 pub mod Bytes
 pub mod Climbs
-pub mod Jumps
 pub mod Members
 pub mod SoundParts
 -- The tree of actions, and what leaves it:
@@ -33,7 +31,6 @@ pub mod SoundParts
 -- Families: a set grown by children until it is a family.
 -- Adopting: a number taken into a set where its parent is in it, by shifts.
 -- Gathering: sets of children, lines and running numbers, gathered by loops.
--- Kin: a family, gathered from the sets of children.
 -- Cleared: arrays that the numbers of a family have left.
 pub mod Taken
 pub mod Lines
@@ -41,7 +38,6 @@ pub mod Heirs
 pub mod Families
 pub mod Adopting
 pub mod Gathering
-pub mod Kin
 pub mod Cleared
 -- Going up until a number is met that is asked for, by parents' bytes of any value:
 -- Named: the number that a parent's byte names.

@@ -17,8 +17,7 @@ use Rattle.rules.proofs.Facts.{SoundNumber, sound-facts, sound-from}
 use Rattle.tables.specs.Table.{Layout, Table, stateOf, parentOf, view}
 use Rattle.tables.specs.Tree.{upOf, tree, treeShape, SoundTree, inUse}
 use Rattle.tables.specs.Owners.{standsAt}
-use Rattle.tables.specs.Climbs.{shifted}
-use Rattle.tables.specs.Soundness.{fit, bytesFit, forbidsOf, permitted}
+use Rattle.tables.specs.Soundness.{fit, bytesFit, forbidsOf, shifted, permitted}
 use Rattle.tables.proofs.Bytes.{none-byte, parent-byte}
 use Rattle.tables.proofs.ViewLaws.{free-byte, tree-sound, tree-with-sets, sets-in-use}
 

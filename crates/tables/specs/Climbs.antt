@@ -1,38 +1,27 @@
--- Steps up between places, for the test that every chain of parents ends: place 0 is the end, and place k + 1 is number k.
+-- Chains of parents that end, and climbs that stop at numbers whose chains are known to end: for the test of rule 3.
+use mathlib.Core.Bool.{Bool, true, false, _||_}
 use mathlib.Core.List.{List}
+use mathlib.Core.Option.{Option}
 use mathlib.Core.Path.{_≡_}
-use Prim.Native.Nat.{ℕ, zero, suc, _+_, _≤_, _<_}
-use lib.Dec.{eqb}
-use lib.ListN.{length, getD}
-use Rattle.rules.specs.Tests.{all}
+use Prim.Native.Nat.{ℕ, suc, _<_}
+use lib.Dec.{eqb, ltb}
+use lib.ListN.{getD}
+use Rattle.sets.specs.Sets.{member}
+use Rattle.rules.specs.Sound.{reachesTop}
 
--- A list moved up by one place, with f applied to each element, and 0 at place 0: what parents' bytes are looked up in.
-abbrev pub shifted : (ℕ → ℕ) → List ℕ → ℕ → ℕ
-shifted f l zero = 0
-shifted f l (suc k) = f (getD l k 0)
+-- number k has no parent, or one with a higher number
+abbrev pub parentHigher : List ℕ → ℕ → Bool
+parentHigher parents k = eqb (getD parents k 0) 0 || ltb (suc k) (getD parents k 0)
 
--- one step up from a place
-abbrev pub stepFrom : List ℕ → ℕ → ℕ
-stepFrom parents x = shifted (λ p. p) parents x
+-- Going from parent to parent, from k, reaches a number that has none, within some number of steps.
+abbrev pub Ends : (ℕ → Option ℕ) → ℕ → Type 0
+Ends up k = (reach : ℕ) × (reachesTop reach up k ≡ true)
 
--- so many steps up from a place
-unfoldable pub climbed : ℕ → List ℕ → ℕ → ℕ
-climbed zero parents x = x
-climbed (suc reach) parents x = climbed reach parents (stepFrom parents x)
+-- Of the n numbers, those that aren't in `rest` have chains that end.
+abbrev pub EndOutside : ℕ → (ℕ → Option ℕ) → ℕ → Type 0
+EndOutside n up rest = (k : ℕ) → k < n → member rest k ≡ false → Ends up k
 
--- Place y lies `reach` steps or more above place x.
-abbrev pub FarUp : List ℕ → ℕ → ℕ → ℕ → Type 0
-FarUp parents reach x y = (m : ℕ) × (reach ≤ m) × (climbed m parents x ≡ y)
-
--- A table of steps up: from each of n + 1 places to one of them.
-pub record StepsUp (n : ℕ) (up : List ℕ) : Type 0 where
-  pub long : length up ≡ suc n
-  pub known : (x : ℕ) → x < suc n → getD up x 0 ≤ n
-
--- A table of steps up after each place took the step of the place that it led to: what were `reach` steps or more are now twice as many, and `left` is
--- 0 where every place leads to the end.
-pub record Jumped (n : ℕ) (before after : List ℕ) (left : ℕ) : Type 0 where
-  pub steps : StepsUp n after
-  pub ended : eqb left 0 ≡ all (suc n) (λ x. eqb (getD after x 0) 0)
-  pub farther : (parents : List ℕ) (reach : ℕ) → ((x : ℕ) → x < suc n → FarUp parents reach x (getD before x 0)) → (x : ℕ) → x < suc n →
-      FarUp parents (reach + reach) x (getD after x 0)
+-- What a climb leaves of the numbers not yet known to end: fewer, and the chains of those left out end. Where it says no, some chain doesn't end.
+pub record Climbed (n : ℕ) (up : ℕ → Option ℕ) (rest left : ℕ) (ends : Bool) : Type 0 where
+  pub fewer : ends ≡ true → (left < rest) × EndOutside n up left
+  pub endless : ends ≡ false → (k : ℕ) × (k < n) × (Ends up k → ⊥)

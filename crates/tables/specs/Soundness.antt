@@ -5,7 +5,6 @@ use Prim.Native.Nat.{ℕ, zero, suc}
 use lib.Bits.{bitAnd}
 use lib.Dec.{eqb, leb}
 use lib.ListN.{getD}
-use Rattle.tables.specs.Climbs.{shifted}
 
 -- The bytes of a number by themselves, p its parent's and s its state's: each means something, a number with no parent isn't committed, and a free number
 -- has no parent.
@@ -21,6 +20,11 @@ abbrev pub forbidsOf : ℕ → ℕ
 forbidsOf zero = 3
 forbidsOf (suc zero) = 0
 forbidsOf (suc (suc s)) = 1
+
+-- A list moved up by one place, with f applied to each element, and 0 at place 0: what parents' bytes are looked up in.
+abbrev pub shifted : (ℕ → ℕ) → List ℕ → ℕ → ℕ
+shifted f l zero = 0
+shifted f l (suc k) = f (getD l k 0)
 
 -- What the number with parent byte p forbids its children; no parent forbids nothing.
 abbrev pub forbiddenUnder : List ℕ → ℕ → ℕ

@@ -14,13 +14,13 @@ use Rattle.tables.specs.Climbs as climbs
 abbrev pub bytesFit : List ℕ → List ℕ → ℕ → Bool
 bytesFit = tables.bytesFit 64
 
--- A table of steps up: from each of 65 places to one of them.
-abbrev pub StepsUp : List ℕ → Type 0
-StepsUp = climbs.StepsUp 64
+-- The numbers that aren't in `rest` have chains of parents that end.
+abbrev pub EndOutside : List ℕ → ℕ → Type 0
+EndOutside parents rest = climbs.EndOutside 64 (upOf parents) rest
 
--- The same after each place took the step of the place that it led to; `left` is 0 where every place leads to the end.
-abbrev pub Jumped : List ℕ → List ℕ → ℕ → Type 0
-Jumped = climbs.Jumped 64
+-- What a climb leaves of the numbers not yet known to end. Where it says no, some chain doesn't end.
+abbrev pub Climbed : List ℕ → ℕ → ℕ → Bool → Type 0
+Climbed parents rest left ends = climbs.Climbed 64 (upOf parents) rest left ends
 
 -- What the soundness test computes, where `standing` are the numbers that stand in any set: the bytes fit, no number is what its parent forbids, every
 -- chain of parents ends, and none of those numbers is free.

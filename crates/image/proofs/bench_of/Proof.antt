@@ -1,6 +1,8 @@
 -- `bench_of` meets its contract. Assumes nothing.
+use mathlib.Core.Path.{_∙_}
 use borrow.Author.Needs.{needs}
 use native.Mathlib.Omega.{arith}
+use Rattle.copies.proofs.CopyLaws.{all-taken}
 use Rattle.image.proofs.Images.{was-image, was-none, bytes-room, words-room, no-record, image-record}
 use Rattle.image.proofs.bench_of.Statement.{statement}
 use Rattle.image.proofs.bench_of.Tie as tie
@@ -27,16 +29,10 @@ bytes-from-requires-2 c κs =
     bytes-room (a .actions .now) (a .owners .now) (was-image (e .before .is-image .result) (e .before .is-image .ensures) (e .if1 .left)) 64 (omega arith)
 
 words-from-requires : tie.Need-words-from-requires
-words-from-requires c κs =
-    let e = c .before .before in
-    let a = e .before .before .before .before .args in
-    words-room (a .actions .now) (a .owners .now) (was-image (e .before .is-image .result) (e .before .is-image .ensures) (e .if1 .left)) 0 (omega arith)
+words-from-requires c κs = search needs
 
 words-from-requires-2 : tie.Need-words-from-requires-2
-words-from-requires-2 c κs =
-    let e = c .before .before .before in
-    let a = e .before .before .before .before .args in
-    words-room (a .actions .now) (a .owners .now) (was-image (e .before .is-image .result) (e .before .is-image .ensures) (e .if1 .left)) 128 (omega arith)
+words-from-requires-2 c κs = search needs
 
 returns-2 : tie.Need-returns-2
 returns-2 c =
@@ -45,8 +41,11 @@ returns-2 c =
     let s = r .before in
     let e = s .before in
     let a = e .before .before .before .before .args in
+    let image = was-image (e .before .is-image .result) (e .before .is-image .ensures) (e .if1 .left) in
+    let room = words-room (a .actions .now) (a .owners .now) image in
     image-record (a .actions .now) (a .owners .now) (s .bytes-from .result) (r .bytes-from2 .result) (w .words-from .result) (c .words-from2 .result)
-    (was-image (e .before .is-image .result) (e .before .is-image .ensures) (e .if1 .left)) (s .bytes-from .ensures) (r .bytes-from2 .ensures) (w .words-from .ensures) (c .words-from2 .ensures)
+    image (s .bytes-from .ensures) (r .bytes-from2 .ensures) (w .words-from .ensures ∙ all-taken (a .owners .now) 0 (room 0 (omega arith)))
+    (c .words-from2 .ensures ∙ all-taken (a .owners .now) 128 (room 128 (omega arith)))
 
 pub bench-of-spec : {M : Type 1} → statement M
 bench-of-spec =

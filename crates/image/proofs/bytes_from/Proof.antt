@@ -1,20 +1,22 @@
 -- `bytes_from` meets its contract. The loop's invariant: the bytes passed have been copied. The measure is what is left of them. Assumes nothing.
-use Prim.Native.Nat.{_≤_, _-_}
-use mathlib.Core.Path.{_≡_}
+use mathlib.Core.Path.{_≡_, refl, _∙_, ap}
+use Prim.Native.Nat.{_+_, _-_, _≤_, _<_}
 use native.Mathlib.Omega.{arith}
 use borrow.Author.Needs.{needs}
-use Rattle.image.proofs.Copies.{CopiedTo, copied-none, copied-more, copied-all}
+use lib.ListN.{getD, set, take, drop, replicate}
+use lib.Seq.{sets}
+use Rattle.copies.proofs.CopyLaws.{copy-out-more, copy-out-all}
 use Rattle.image.proofs.bytes_from.Statement.{statement}
 use Rattle.image.proofs.bytes_from.Tie as tie
 
 abbrev Inv-loop : tie.InvT-loop
-Inv-loop actions at bytes₀ k₀ bytes k = (k ≤ 64) × CopiedTo actions 64 at bytes k
+Inv-loop actions at bytes₀ k₀ bytes k = (k ≤ 64) × (bytes ≡ sets (replicate 64 0) 0 (take k (drop at actions)))
 
 abbrev μ-loop : tie.MeasureT-loop
 μ-loop actions at bytes₀ k₀ bytes k = 64 - k
 
 loop-holds : tie.Need-loop-holds Inv-loop μ-loop
-loop-holds c = (search needs, copied-none (c .args .actions .now) 64 (c .args .at))
+loop-holds c = (search needs, refl)
 
 add-bytes : tie.Need-add-bytes Inv-loop μ-loop
 add-bytes c = search needs
@@ -33,16 +35,19 @@ loop-less c = search needs
 
 loop-again : tie.Need-loop-again Inv-loop μ-loop
 loop-again c =
-    let l = c .before .before in (
-      search needs,
-      copied-more (l .before .args .actions .now) 64 (l .before .args .at) (l .loop .bytes) (l .loop .k) (c .before .loop-test .taken) (l .loop .inv .1),
-    )
+    let l = c .before .before in
+    let s = l .before in
+    let a = s .args in
+    let below : l .loop .k < 64 = search needs in
+    (search needs, ap (λ o. set o (l .loop .k) (getD (a .actions .now) (a .at + l .loop .k) 0)) (l .loop .inv .1) ∙ copy-out-more (a .actions .now) 64 (a .at) (s .pre) (l .loop .k) below)
 
 returns : tie.Need-returns Inv-loop μ-loop
 returns c =
     let l = c .before in
-    let e : l .loop .k ≡ 64 = omega arith in
-    copied-all (l .before .args .actions .now) 64 (l .before .args .at) (l .loop .bytes) (l .before .pre) (rw e at (l .loop .inv .1))
+    let s = l .before in
+    let a = s .args in
+    let all : l .loop .k ≡ 64 = omega arith in
+    l .loop .inv .1 ∙ ap (λ n. sets (replicate 64 0) 0 (take n (drop (a .at) (a .actions .now)))) all ∙ copy-out-all (a .actions .now) 64 (a .at) (s .pre)
 
 pub bytes-from-spec : {M : Type 1} → statement M
 bytes-from-spec =

@@ -1,6 +1,7 @@
 -- `put_actions` meets its contract: two halves put one after the other are the whole. Assumes nothing.
 use borrow.Author.Needs.{needs}
-use Rattle.image.proofs.Copies.{put-halves}
+use native.Mathlib.Omega.{arith}
+use Rattle.copies.proofs.CopyLaws.{both-halves}
 use Rattle.image.proofs.put_actions.Statement.{statement}
 use Rattle.image.proofs.put_actions.Tie as tie
 
@@ -19,8 +20,9 @@ returns c =
     let first = second .before .before .before .before in
     let s = first .before .before .before in
     let a = s .args in
-    put-halves 64 (a .actions .now) (a .parents .now) (a .states .now) (first .put-bytes .last .0) (second .put-bytes2 .last .0)
-    (s .pre .0) (s .pre .1) (s .pre .2) (first .put-bytes .ensures) (second .put-bytes2 .ensures)
+    let long = s .pre .0 in
+    rw (second .put-bytes2 .ensures, first .put-bytes .ensures)
+    (both-halves 64 (a .actions .now) (a .parents .now) (a .states .now) (omega arith) (s .pre .1) (s .pre .2) long)
 
 pub put-actions-spec : {M : Type 1} → statement M
 put-actions-spec = tie.close (tie.spec put-bytes-requires put-bytes-requires-2 same-length returns)

@@ -1,6 +1,7 @@
 -- `put_owners` meets its contract: two halves put one after the other are the whole. Assumes nothing.
 use borrow.Author.Needs.{needs}
-use Rattle.image.proofs.Copies.{put-halves}
+use native.Mathlib.Omega.{arith}
+use Rattle.copies.proofs.CopyLaws.{put-twice, both-halves}
 use Rattle.image.proofs.put_owners.Statement.{statement}
 use Rattle.image.proofs.put_owners.Tie as tie
 
@@ -16,11 +17,12 @@ same-length c = search needs
 returns : tie.Need-returns
 returns c =
     let second = c .before .before in
-    let first = second .before .before .before .before in
-    let s = first .before .before .before in
+    let first = second .before .before .before .before .before in
+    let s = first .before .before .before .before in
     let a = s .args in
-    put-halves 128 (a .owners .now) (a .reads .now) (a .writes .now) (first .put-words .last .0) (second .put-words2 .last .0)
-    (s .pre .0) (s .pre .1) (s .pre .2) (first .put-words .ensures) (second .put-words2 .ensures)
+    let long = s .pre .0 in
+    rw (second .put-words2 .ensures, first .put-words .ensures, put-twice 128 (a .owners .now) (a .reads .now) (a .writes .now) (omega arith) (s .pre .1) (s .pre .2))
+    (both-halves 128 (a .owners .now) (a .reads .now) (a .writes .now) (omega arith) (s .pre .1) (s .pre .2) long)
 
 pub put-owners-spec : {M : Type 1} → statement M
 put-owners-spec = tie.close (tie.spec put-words-requires put-words-requires-2 same-length returns)

@@ -12,9 +12,9 @@ use Rattle.rules.specs.ReadWrite.{readWrite}
 use Rattle.rules.proofs.Tests.{by-bool}
 use Rattle.bench.specs.declared.Bench.{Bench}
 use Rattle.bench.specs.Record.{viewed}
-use Rattle.saved.specs.declared.Saved.{Saved}
+use Rattle.saving.specs.declared.Saved.{Saved}
 use Rattle.saved.specs.Saved.{savedAs}
-use Rattle.saved.specs.Text.{textOf}
+use Rattle.forms.specs.Text.{textOf}
 use Rattle.reload.proofs.reload.Statement.{statement}
 use Rattle.reload.proofs.reload.Tie as tie
 

@@ -1,8 +1,8 @@
 -- `load` meets its contract: from what the two reads took, a text with something left over is refused, and a text read whole gives what `checked` says
 -- of its record. Assumes nothing.
 use borrow.Author.Needs.{needs}
-use Rattle.saved.specs.Shape.{actionsIn, instrumentsIn}
-use Rattle.saved.proofs.ReadText.{left-over, read-whole}
+use Rattle.forms.specs.WellShaped.{actionsIn, instrumentsIn}
+use Rattle.saved.proofs.SaidByText.{left-over, read-whole}
 use Rattle.saved.proofs.load.Statement.{statement}
 use Rattle.saved.proofs.load.Tie as tie
 

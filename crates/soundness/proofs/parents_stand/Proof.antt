@@ -9,8 +9,7 @@ use native.Mathlib.Numerals.{add-one}
 use native.Mathlib.Omega.{arith}
 use Rattle.rules.proofs.Tests.{all-more}
 use Rattle.rules.specs.Tests.{all}
-use Rattle.tables.proofs.Bytes.{permitted-all}
-use Rattle.tables.proofs.Jumps.{or-ended}
+use Rattle.tables.proofs.Bytes.{or-ended, permitted-all}
 use Rattle.tables.specs.Soundness.{permitted}
 use Rattle.soundness.proofs.parents_stand.Statement.{statement}
 use Rattle.soundness.proofs.parents_stand.Tie as tie

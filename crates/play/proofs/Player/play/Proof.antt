@@ -1,15 +1,21 @@
 -- `Player::play` meets its contract: the bytes that it takes surely have room for what is written for them, which stands at the buffer's start; the index is that
 -- of the bench where it is sound. Assumes nothing.
-use mathlib.Core.Path.{_≡_, refl, sym, _∙_}
+use mathlib.Core.Path.{_≡_, refl, _∙_}
+use mathlib.Core.Bool.{true}
 use mathlib.Core.Logic.{⊎-elim}
 use native.Mathlib.Omega.{arith}
 use borrow.Author.Needs.{needs}
 use lib.ListN.{length}
 use Rattle.rules.proofs.Tests.{clash}
-use Rattle.tables.proofs.ViewLaws.{tree-sound, parents-sound}
+use Rattle.tables.specs.Tree.{tree}
+use Rattle.tables.proofs.ViewLaws.{tree-sound}
+use Rattle.views.specs.Tree.{SoundTree}
 use Rattle.views.proofs.Words.{arrays-long}
 use Rattle.views.specs.View.{arrays, layout}
 use Rattle.lines.proofs.FeedLaws.{fed-long, taken-by-long, taken-by-fits}
+use Rattle.copies.proofs.CopyLaws.{all-taken}
+use Rattle.index.specs.Tables.{IndexOf}
+use Rattle.index.proofs.Making.{made-indexed}
 use Rattle.play.specs.Feeding.{widthBy}
 use Rattle.play.proofs.PlayerFeeding.{fed-as, say-short}
 use Rattle.play.proofs.Player.play.Statement.{statement}
@@ -45,19 +51,25 @@ owners-of-requires : tie.Need-owners-of-requires
 owners-of-requires c κs = let s = begun (c .before .before) in (reads-long s, writes-long s)
 
 index-of-requires : tie.Need-index-of-requires
-index-of-requires c κs =
-    let t = c .before .before in
-    let tested = t .before .before .before .before in
-    let s = begun tested in
-    let b = s .args .self .bench in
-    let is-sound = sym (tested .sound .ensures) ∙ t .if1 .taken in
-    (tree-sound layout (arrays (b .parents) (b .states) (b .reads) (b .writes)) is-sound, parents-sound layout (arrays (b .parents) (b .states) (b .reads) (b .writes)) is-sound, parents-long s, states-long s)
+index-of-requires c κs = search needs
 
 slice-aggregate-feed-bytes : tie.Need-slice-aggregate-feed-bytes
 slice-aggregate-feed-bytes c =
     let tested = c .before .before .before .before .before .before .before .before .before in
     let a = begun tested .args in
     taken-by-long (widthBy (a .telling)) (a .input .now) (a .out .now) (took tested .takes .result) (took tested .takes .ensures)
+
+-- the index is that of the bench where it is sound
+indexed : (c : tie.Joined1) → let tested = c .before .before .before .before in let b = begun tested .args .self .bench in
+    tested .sound .result ≡ true → IndexOf (tree (b .parents) (b .states)) (c .if1 .index)
+indexed c is-sound =
+    let tested = c .before .before .before .before in
+    let b = begun tested .args .self .bench in
+    let tree-is-sound : SoundTree (b .parents) (b .states) =
+    tree-sound layout (arrays (b .parents) (b .states) (b .reads) (b .writes)) (rw (tested .sound .ensures) at is-sound) in
+    ⊎-elim {C = IndexOf (tree (b .parents) (b .states)) (c .if1 .index)} (λ w. rw (w .4) (made-indexed tree-is-sound (w .3 .ensures)))
+    (λ w. clash {P = IndexOf (tree (b .parents) (b .states)) (c .if1 .index)} (tested .sound .result) is-sound (w .0 .left))
+    (c .if1 .came)
 
 feed-bytes-requires : tie.Need-feed-bytes-requires
 feed-bytes-requires c κs =
@@ -74,18 +86,24 @@ feed-bytes-requires c κs =
               known = tested .sound .ensures;
             });
         ownersLong = owned .owners-of .ensures .long;
-        indexed = λ e. ⊎-elim (λ w. rw (w .4) (w .3 .ensures)) (λ w. clash (tested .sound .result) e (w .0 .left)) (joined .if1 .came);
+        indexed = indexed joined;
       },
       refl,
       refl,
       taken-by-fits (widthBy (a .telling)) (a .input .now) (a .out .now) (took tested .takes .result) (took tested .takes .ensures),
     )
 
-sets-from-requires : tie.Need-sets-from-requires
-sets-from-requires c κs = (c .before .before .before .feed-bytes .ensures .1, omega arith)
+slice-aggregate-words-from : tie.Need-slice-aggregate-words-from
+slice-aggregate-words-from c = search needs
 
-sets-from-requires-2 : tie.Need-sets-from-requires-2
-sets-from-requires-2 c κs = (c .before .before .before .before .before .feed-bytes .ensures .1, omega arith)
+words-from-requires : tie.Need-words-from-requires
+words-from-requires c κs = search needs
+
+slice-aggregate-words-from-2 : tie.Need-slice-aggregate-words-from-2
+slice-aggregate-words-from-2 c = search needs
+
+words-from-requires-2 : tie.Need-words-from-requires-2
+words-from-requires-2 c κs = search needs
 
 same-length : tie.Need-same-length
 same-length c = fed-long (c .before .before .before .before .before .before .feed-bytes .ensures .0)
@@ -93,11 +111,15 @@ same-length c = fed-long (c .before .before .before .before .before .before .fee
 returns : tie.Need-returns
 returns c =
     let reads = c .before .before in
-    let ended = c .before .before .before .before .before .before in
+    let ended = reads .before .before .before .before in
     let owned = ended .before .before .before .before .before .before .before .before in
     let tested = owned .before .before .before in
     let fed = rw (owned .owners-of .ensures .ofReads, owned .owners-of .ensures .ofWrites) at (ended .feed-bytes .ensures .0) in
-    fed-as (say-short (begun tested .args .telling)) (took tested .takes .ensures) (rw (reads .sets-from .ensures, c .sets-from2 .ensures) fed)
+    let owners = ended .feed-bytes .last .1 .1 .0 in
+    let long = ended .feed-bytes .ensures .1 in
+    let first = reads .words-from .ensures ∙ all-taken owners 0 (rw long (omega arith)) in
+    let second = c .words-from2 .ensures ∙ all-taken owners 128 (rw long (omega arith)) in
+    fed-as (say-short (begun tested .args .telling)) (took tested .takes .ensures) (rw (first, second) fed)
 
 pub play-spec : {M : Type 1} → statement M
 play-spec =
@@ -109,7 +131,9 @@ play-spec =
     index-of-requires
     slice-aggregate-feed-bytes
     feed-bytes-requires
-    sets-from-requires
-    sets-from-requires-2
+    slice-aggregate-words-from
+    words-from-requires
+    slice-aggregate-words-from-2
+    words-from-requires-2
     same-length
     returns)

@@ -1,25 +1,30 @@
 -- `end_line` meets its contract: a sound bench takes the request's step, and one that isn't sound answers 7 to a request and 8 to a line that has none.
 -- Assumes nothing.
 use mathlib.Core.Path.{refl}
+use borrow.Author.Needs.{needs}
+use Rattle.index.specs.Tables.{table}
+use Rattle.index.proofs.KeptSteps.{kept-steps}
 use Rattle.lines.proofs.LineEnds.{sound-arrays, step-ends, malformed-ends, unsound-ends}
 use Rattle.play.proofs.place.end_line.Statement.{statement}
 use Rattle.play.proofs.place.end_line.Tie as tie
 
 request-requires : tie.Need-request-requires
-request-requires c κs =
-    let t = c .before .before .before .before in
-    let known = t .before .pre .0 in
-    record {
-      lists = record { table = sound-arrays (known .table) (t .if1 .taken); ownersLong = known .ownersLong };
-      indexed = known .indexed (t .if1 .taken);
-    }
+request-requires c κs = search needs
 
 returns : tie.Need-returns
 returns c =
     let t = c .before .before .before .before .before in
-    let done = c .request .ensures in
+    let s = t .before in
+    let a = s .args in
+    let f = a .frame in
+    let known = s .pre .0 in
+    let before = table (a .parents .now) (a .states .now) (a .owners .now) (a .index .now) in
+    let after = table (c .request .last .0) (c .request .last .1 .0) (c .request .last .1 .1 .0) (c .request .last .1 .1 .1 .0) in
+    let done = kept-steps {before = before} {after = after}
+    (record { lists = record { table = sound-arrays (known .table) (t .if1 .taken); ownersLong = known .ownersLong }; indexed = known .indexed (t .if1 .taken) })
+    (f .code) (f .x) (f .y) (c .request .ensures) in
     record {
-      ended = step-ends (t .before .pre .0 .table) (t .if1 .taken) refl (done .step .stepped);
+      ended = step-ends (known .table) (t .if1 .taken) refl (done .step .stepped);
       ownersLong = done .step .ownersLong;
       indexed = λ e. done .indexed;
     }

@@ -7,7 +7,8 @@ use borrow.Author.Needs.{needs}
 use lib.ListN.{length}
 use Rattle.lines.proofs.FeedLaws.{Left, left-none, left-more, left-room, left-all}
 use Rattle.play.specs.Feeding.{sayBy, widthBy}
-use Rattle.play.specs.Tables.{table, KnownTable}
+use Rattle.index.specs.Tables.{table}
+use Rattle.play.specs.Known.{KnownTable}
 use Rattle.play.specs.Places.{feedingAt}
 use Rattle.play.proofs.PlayerFeeding.{say-short}
 use Rattle.play.proofs.place.feed_bytes.Statement.{statement}

@@ -5,24 +5,43 @@ use native.Mathlib.Nat.{add-zero}
 use native.Mathlib.Omega.{arith}
 use borrow.Author.Needs.{needs}
 use lib.ListN.{length}
-use Rattle.lines.proofs.FeedLaws.{line-fed, character-fed, fed-on}
-use Rattle.lines.proofs.LineEnds.{ended-small}
+use Rattle.lines.proofs.FeedLaws.{character-fed, fed-on}
 use Rattle.lines.proofs.WholeLines.{take-characters}
-use Rattle.play.proofs.PlayerFeeding.{text-said}
+use Rattle.index.specs.Tables.{Table, table}
+use Rattle.frames.specs.Ends.{NextEnd}
+use Rattle.frames.proofs.EndsFound.{next-end-found}
+use Rattle.play.specs.Known.{feedingIn}
+use Rattle.play.proofs.PlayerFeeding.{done-small, line-said}
 use Rattle.play.proofs.place.feed_next.Statement.{statement}
 use Rattle.play.proofs.place.feed_next.Tie as tie
 
 next-end-requires : tie.Need-next-end-requires
 next-end-requires c κs = search needs
 
+-- what is known of the end that was looked for
+end : (c : tie.After-next-end) → let a = c .before .before .before .args in NextEnd (a .place .count) (a .place .value) (a .input .now) (a .place .at) (c .next-end .result)
+end c =
+    let s = c .before .before .before in
+    let a = s .args in
+    rw (c .next-end .ensures) (next-end-found (s .pre .1) (a .input .now) (a .place .at) (a .place .count) (a .place .value) (s .pre .2 .more))
+
 end-line-requires : tie.Need-end-line-requires
-end-line-requires c κs = search needs
+end-line-requires c κs =
+    let next = c .before .before .before .before .before .before in
+    (next .before .before .before .pre .0, end next .found .small)
+
+-- the table as it was, and as the end of the line leaves it
+abbrev before : tie.Start → Table
+before s = table (s .args .parents .now) (s .args .states .now) (s .args .owners .now) (s .args .index .now)
+
+abbrev after : tie.After-end-line → Table
+after e = table (e .end-line .last .0) (e .end-line .last .1 .0) (e .end-line .last .1 .1 .0) (e .end-line .last .1 .1 .1 .0)
 
 put-line-requires : tie.Need-put-line-requires
 put-line-requires c κs =
     let e = c .before .before .before .before in
     let start = e .before .before .before .before .before .before .before .before .before .before in
-    (start .pre .2 .room, ended-small (e .end-line .ensures .ended))
+    (start .pre .2 .room, done-small (before start) (after e) (e .end-line .ensures))
 
 add-t26 : tie.Need-add-t26
 add-t26 c =
@@ -31,7 +50,7 @@ add-t26 c =
     let next = some .before .before in
     let start = next .before .before .before in
     let input = start .args .input .now in
-    let within : start .args .place .at + next .next-end .result .size ≤ length input = next .next-end .ensures .found .within (some .if1 .taken) in
+    let within : start .args .place .at + next .next-end .result .size ≤ length input = end next .found .within (some .if1 .taken) in
     let known : length input < 2 ^ 64 = search (needs, start .good .1 .1 .1 .1 .1 .1 .0) in
     record { fits = omega arith }
 
@@ -45,13 +64,11 @@ returns c =
     let some = e .before .before .before .before .before in
     let next = some .before .before in
     let start = next .before .before .before in
-    let end = next .next-end .ensures .found in
-    let ended = e .end-line .ensures .ended in
+    let found = end next .found in
     record {
-      on = fed-on refl (some .if1 .taken) (end .within (some .if1 .taken)) refl
-          (line-fed (end .ends (some .if1 .taken)) ended (text-said (start .args .place .telling) (next .next-end .result .frame) (e .end-line .ensures))
-          (put .put-line .ensures .wrote) (put .put-line .ensures .upTo));
-      known = record { table = ended .table; ownersLong = e .end-line .ensures .ownersLong; indexed = e .end-line .ensures .indexed };
+      on = fed-on refl (some .if1 .taken) (found .within (some .if1 .taken)) refl
+          (line-said (start .args .place .telling) (before start) (after e) (next .next-end .result .frame) (found .ends (some .if1 .taken)) (e .end-line .ensures) (put .put-line .ensures));
+      known = record { table = e .end-line .ensures .ended .table; ownersLong = e .end-line .ensures .ownersLong; indexed = e .end-line .ensures .indexed };
       sameTelling = refl;
       sameSound = refl;
     }
@@ -76,8 +93,8 @@ returns-2 c =
     let inside = start .pre .2 .more in
     let one = rw add-zero at (take-characters 1 (start .args .input .now) (start .args .place .at) 0 (omega arith)) in
     record {
-      on = fed-on {size = 1} refl (λ none. absurd (omega arith)) (omega arith) (sym one)
-          (character-fed (next .next-end .ensures .goesOn (on .if1 .left)) (c .before .count-after .ensures) (c .value-after .ensures));
+      on = fed-on {size = 1} {now = feedingIn (before start) (c .before .count-after .result) (c .value-after .result)} refl (λ none. absurd (omega arith)) (omega arith) (sym one)
+          (character-fed (end next .goesOn (on .if1 .left)) (c .before .count-after .ensures) (c .value-after .ensures));
       known = start .pre .0;
       sameTelling = refl;
       sameSound = refl;

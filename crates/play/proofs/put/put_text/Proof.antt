@@ -5,7 +5,7 @@ use native.Mathlib.Omega.{arith}
 use borrow.Author.Needs.{needs}
 use lib.ListN.{length, getD, set, take}
 use lib.Seq.{sets}
-use Rattle.play.proofs.CopyLaws.{copy-more}
+use Rattle.copies.proofs.CopyLaws.{copy-more}
 use Rattle.play.proofs.put.put_text.Statement.{statement}
 use Rattle.play.proofs.put.put_text.Tie as tie
 

@@ -1,0 +1,3 @@
+pub mod Kinds
+pub mod Text
+pub mod WellShaped

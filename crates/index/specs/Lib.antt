@@ -1,0 +1,4 @@
+pub mod Tables
+pub mod Making
+pub mod Families
+pub mod Kept
