@@ -4,6 +4,9 @@
    Where Berkeley DB and document 01 agree: a transaction is granted what only itself and its ancestors hold against it, a nested one's commit hands
    its locks to its parent, an abort drops them. No line played got another answer than document 01's; docs/PERFORMANCE.md says how many were.
 
+   Where nothing stands in: order 2's draining. An abort frees at once here, so this player is compared on traces that abort no owner, neither an action that
+   owns something nor one with a descendant that does. On those nothing drains, and quiet always gets 10.
+
    Where they do not, and the bookkeeping of trace_player.h stands in:
    - Answer 5. Berkeley DB's manual forbids a parent all but begin, commit and abort while it has a running child. lock_get does not enforce that: it
      grants the parent what nobody holds (benchmarks/lock_get shows it) and refuses what the child holds. The parent's commit ends the child too.
@@ -30,14 +33,22 @@ static int granted(int a, int instrument, int writing) {
 static void commit_sub(int a) { must(transaction[a]->commit(transaction[a], 0), "commit of a sub"); }
 
 /* Children first: Berkeley DB would end the running ones along with their parent and leave their handles dead. */
-static void free_family(int a, int committing) {
+static void end_family(int a, int committing) {
     for (int k = 0; k < 64; k++)
-        if (parent[k] == a) free_family(k, committing);
+        if (parent[k] == a) end_family(k, committing);
     if (state[a] == RUNNING && committing) must(transaction[a]->commit(transaction[a], 0), "commit of a top");
     if (state[a] == RUNNING && !committing) must(transaction[a]->abort(transaction[a]), "abort");
     state[a] = FREE;
     running_children[a] = 0;
     parent[a] = -1;
+}
+
+static void commit_top(int a) { end_family(a, 1); }
+static void abort_family(int a) { end_family(a, 0); }
+
+static int quiet(int a, int instrument) {
+    (void)a, (void)instrument;
+    return 0;
 }
 
 int main(void) {

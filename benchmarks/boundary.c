@@ -29,6 +29,20 @@ static void deep(dikothelm_bench *bench) {
     for (k = 0; k < 63; k++) dikothelm_open_sub(bench, 62 - k, 63 - k);
 }
 
+/* The busy bench with its owners aborted: each of 12 to 23 drains at the two or three instruments that are it less 12, and so on in twelves. */
+static void draining(dikothelm_bench *bench) {
+    uint32_t k;
+    busy(bench);
+    for (k = 12; k < 24; k++) dikothelm_abort(bench, k);
+}
+
+/* The same with only the first instrument of each left. */
+static void nearly_quiet(dikothelm_bench *bench) {
+    uint32_t k;
+    draining(bench);
+    for (k = 12; k < 30; k++) dikothelm_quiet(bench, 12 + k % 12, k);
+}
+
 static unsigned one(dikothelm_bench *bench, char kind, uint32_t n) {
     switch (kind) {
     case '0': return dikothelm_sound(bench);
@@ -40,6 +54,8 @@ static unsigned one(dikothelm_bench *bench, char kind, uint32_t n) {
     case '6': return dikothelm_abort(bench, 12 + n % 12);
     case '7': return dikothelm_abort(bench, 2 + n % 4);
     case '8': return dikothelm_abort(bench, n % 2);
+    case 'a':
+    case 'b': return dikothelm_quiet(bench, 12 + n % 12, n % 12);
     default: return dikothelm_write(bench, 0, n % 128);
     }
 }
@@ -88,6 +104,8 @@ int main(int words, char **word) {
         return 2;
     }
     if (word[2][0] == '9') deep(&from);
+    else if (word[2][0] == 'a') draining(&from);
+    else if (word[2][0] == 'b') nearly_quiet(&from);
     else busy(&from);
     if (strcmp(word[1], "time") == 0) {
         double with = best(&from, one, word[2][0], &sum), without = best(&from, none, word[2][0], &sum);

@@ -4,15 +4,20 @@
 
 static uint64_t readers[128], writers[128];
 
+static uint64_t draining;  /* all numbers that drain */
+static uint64_t group[64]; /* of a number that drains under itself, all that drain under it */
+
 static uint64_t line_of(int a) {
     uint64_t line = 0;
     for (; a >= 0; a = parent[a]) line |= 1ull << a;
     return line;
 }
 
+/* A draining number's owner is in nobody's line. */
 static int covered(int a, uint64_t owners) {
     uint64_t line, rest;
     if (!owners) return 1;
+    if (owners & draining) return 0;
     line = line_of(a);
     for (rest = owners & ~line; rest; rest &= rest - 1) {
         int k = __builtin_ctzll(rest);
@@ -32,16 +37,51 @@ static uint64_t family_of(int a) {
     return set;
 }
 
-/* The sets name committed numbers too, so neither opening nor a sub's commit changes them, and a top's commit and an abort are alike. */
+static int stand_in_a_set(uint64_t numbers) {
+    for (int i = 0; i < 128; i++)
+        if ((readers[i] | writers[i]) & numbers) return 1;
+    return 0;
+}
+
+/* They leave the tree. */
+static void become(uint8_t next, uint64_t numbers) {
+    for (; numbers; numbers &= numbers - 1) {
+        int k = __builtin_ctzll(numbers);
+        state[k] = next, parent[k] = -1, running_children[k] = 0;
+    }
+}
+
+/* The sets name committed numbers too, so neither opening nor a sub's commit changes them. */
 static void begin(int n) { (void)n; }
 static void commit_sub(int a) { (void)a; }
 
-static void free_family(int a, int committing) {
+static void commit_top(int a) {
     uint64_t gone = family_of(a);
-    (void)committing;
-    for (int k = 0; k < 64; k++)
-        if (gone >> k & 1) state[k] = FREE, parent[k] = -1, running_children[k] = 0;
+    become(FREE, gone);
     for (int i = 0; i < 128; i++) readers[i] &= ~gone, writers[i] &= ~gone;
+}
+
+static void abort_family(int a) {
+    uint64_t aborted = family_of(a);
+    if (stand_in_a_set(aborted)) {
+        become(DRAINING, aborted);
+        group[a] = aborted;
+        draining |= aborted;
+    } else {
+        become(FREE, aborted);
+    }
+}
+
+static int quiet(int a, int instrument) {
+    uint64_t left = group[a];
+    if (!((readers[instrument] | writers[instrument]) & left)) return 0;
+    readers[instrument] &= ~left, writers[instrument] &= ~left;
+    if (!stand_in_a_set(left)) {
+        become(FREE, left);
+        group[a] = 0;
+        draining &= ~left;
+    }
+    return 1;
 }
 
 static int granted(int a, int instrument, int writing) {

@@ -1,20 +1,22 @@
 /* What the C players share: lines in, answers out, and the bookkeeping of action numbers from which the answers 1 to 5 and 8 come. Whether a lock is
-   granted, and who owns what, is left to the player that includes this. */
+   granted, who owns what, and what drains, is left to the player that includes this. */
 #include <stdint.h>
 #include <stdio.h>
 #include <string.h>
 
-enum { FREE, RUNNING, COMMITTED };
+enum { FREE, RUNNING, COMMITTED, DRAINING };
 
 static uint8_t state[64];
 static int8_t parent[64]; /* -1: none */
 
-/* What each player supplies. A number is running and has its parent when it is begun; begin, commit_sub and free_family keep the owners, and
-   free_family makes a and its descendants free, for a top's commit or for an abort. */
+/* What each player supplies. A number is running and has its parent when it is begun; all of these keep the owners. commit_top makes a and its descendants
+   free, abort_family makes them free or draining, and quiet says whether something drained under a at the instrument, and ends it there. */
 static void begin(int n);
 static int granted(int a, int instrument, int writing);
 static void commit_sub(int a);
-static void free_family(int a, int committing);
+static void commit_top(int a);
+static void abort_family(int a);
+static int quiet(int a, int instrument);
 
 /* How many running children each number has. */
 static uint8_t running_children[64];
@@ -50,21 +52,27 @@ static int request(int code, int x, int y) {
         if (state[x] != RUNNING) return 4;
         if (has_running_child(x)) return 5;
         if (parent[x] < 0) {
-            free_family(x, 1);
+            commit_top(x);
         } else {
             state[x] = COMMITTED;
             running_children[parent[x]]--;
             commit_sub(x);
         }
         return 0;
-    default:
+    case 6:
         if (x > 63) return 1;
         if (state[x] != RUNNING) return 4;
         if (parent[x] >= 0) running_children[parent[x]]--;
-        free_family(x, 0);
+        abort_family(x);
         return 0;
+    default:
+        if (x > 63) return 1;
+        if (y > 127) return 2;
+        return quiet(x, y) ? 0 : 10;
     }
 }
+
+static const char digits[] = "0123456789abcdef";
 
 static int digit(int c) {
     if (c >= '0' && c <= '9') return c - '0';
@@ -81,7 +89,7 @@ static int answer(const unsigned char *line, int length) {
         byte[k / 2] = high * 16 + low;
     }
     if (length == 4) return byte[0] == 1 || byte[0] == 5 || byte[0] == 6 ? request(byte[0], byte[1], 0) : 8;
-    return byte[0] >= 2 && byte[0] <= 4 ? request(byte[0], byte[1], byte[2]) : 8;
+    return (byte[0] >= 2 && byte[0] <= 4) || byte[0] == 7 ? request(byte[0], byte[1], byte[2]) : 8;
 }
 
 static void play(void) {
@@ -97,11 +105,11 @@ static void play(void) {
                 continue;
             }
             output[written++] = '0';
-            output[written++] = (unsigned char)('0' + answer(line, length));
+            output[written++] = (unsigned char)digits[answer(line, length)];
             output[written++] = '\n';
             length = 0;
         }
         if (fwrite(output, 1, written, stdout) != written) return;
     }
-    if (length) printf("0%d\n", answer(line, length));
+    if (length) printf("0%c\n", digits[answer(line, length)]);
 }

@@ -1,7 +1,8 @@
 /* Dikothelm: a lock table for a test bench of 128 instruments and 64 action numbers, for C and C++.
 
    Actions nest, siblings run side by side, and instruments are locked by Moss's rules: an action may read what only itself and its ancestors write,
-   and may write what only itself and its ancestors read or write. A committed subaction's locks count as its parent's.
+   and may write what only itself and its ancestors read or write. A committed subaction's locks count as its parent's. An aborted action that owns
+   something drains: its locks stay, and stand in everybody's way, until each of its instruments is said to be quiet.
 
    dikothelm_version and the dikothelm_image_ functions are the proved library; link target/staticlib/libdikothelm.a, which `rt staticlib dikothelm` proves
    and builds. Below them stand the same ones over a struct, and a few that only look at it: plain C, tested, not proved.
@@ -16,7 +17,7 @@
 #include <stdint.h>
 
 /* This header's version, major * 65536 + minor * 256 + patch. The archive's is dikothelm_version(); the two belong together where they are equal. */
-#define DIKOTHELM_VERSION 0x000200 /* 0.2.0 */
+#define DIKOTHELM_VERSION 0x000300 /* 0.3.0 */
 
 #define DIKOTHELM_ACTIONS 64        /* action numbers are 0 to 63 */
 #define DIKOTHELM_INSTRUMENTS 128   /* instruments are 0 to 127 */
@@ -27,16 +28,17 @@ enum dikothelm_answer {
     DIKOTHELM_ACCEPTED = 0,           /* done */
     DIKOTHELM_NO_SUCH_ACTION = 1,     /* an action number is above 63 */
     DIKOTHELM_NO_SUCH_INSTRUMENT = 2, /* the instrument is above 127 */
-    DIKOTHELM_NOT_FREE = 3,           /* the number to open is in use, running or committed */
+    DIKOTHELM_NOT_FREE = 3,           /* the number to open is in use: running, committed or draining */
     DIKOTHELM_NOT_RUNNING = 4,        /* the acting number, or the parent to open under, isn't running */
     DIKOTHELM_RUNNING_CHILD = 5,      /* the acting number has a running child */
     DIKOTHELM_NOT_GRANTED = 6,        /* an owner in a conflicting mode is neither the asker nor an ancestor of it */
     DIKOTHELM_UNSOUND = 7,            /* the record isn't sound, or has another length */
     DIKOTHELM_MALFORMED = 8,          /* the line or the saved text is malformed */
-    DIKOTHELM_NO_ROOM = 9             /* the buffer is shorter than the text */
+    DIKOTHELM_NO_ROOM = 9,            /* the buffer is shorter than the text */
+    DIKOTHELM_NOT_DRAINING = 10       /* the number isn't an aborted action that drains, or nothing of it drains at the instrument */
 };
 
-enum dikothelm_action_state { DIKOTHELM_FREE = 0, DIKOTHELM_RUNNING = 1, DIKOTHELM_COMMITTED = 2 };
+enum dikothelm_action_state { DIKOTHELM_FREE = 0, DIKOTHELM_RUNNING = 1, DIKOTHELM_COMMITTED = 2, DIKOTHELM_DRAINING = 3 };
 
 /* The places of a player's progress, four words; all 0 before the first call. */
 enum dikothelm_progress {
@@ -53,7 +55,8 @@ extern "C" {
 
 /* The proved library, over a record of two arrays:
 
-     actions, 128 bytes: the parents of numbers 0 to 63 (0: none, else the parent's number + 1), then their states (enum dikothelm_action_state);
+     actions, 128 bytes: the parents of numbers 0 to 63 (0: none, else the parent's number + 1), then their states (enum dikothelm_action_state; a draining
+     number, which has no parent, has DIKOTHELM_DRAINING + the number of the aborted action that it drains under, 3 to 66);
      owners, 256 words: the read sets of instruments 0 to 127, then their write sets (bit k: number k).
 
    Lengths count elements. A record of other lengths gets 7 and stays as it is. Whatever the answer but 0, nothing changes, with two exceptions: `count` is
@@ -85,8 +88,13 @@ uint8_t dikothelm_image_write(uint8_t *actions, size_t actions_length, uint64_t 
    has a running child. */
 uint8_t dikothelm_image_commit(uint8_t *actions, size_t actions_length, uint64_t *owners, size_t owners_length, uint32_t a);
 
-/* Aborts a: frees it and all its descendants, running or committed, and their locks. 7; 1: a above 63; 4: a isn't running. */
+/* Aborts a and all its descendants, running or committed. If one of them stands in a set, they all drain under a: they leave the tree and stay in use, and
+   a owns what they had, until dikothelm_image_quiet. Else they become free. 7; 1: a above 63; 4: a isn't running. */
 uint8_t dikothelm_image_abort(uint8_t *actions, size_t actions_length, uint64_t *owners, size_t owners_length, uint32_t a);
+
+/* Instrument i is quiet for the aborted action a: all numbers that drain under a leave its sets, and become free when none of them is left in any set. 7; 1: a
+   above 63; 2: i above 127; 10: a doesn't drain under itself, or none that drains under it is in the sets of i. */
+uint8_t dikothelm_image_quiet(uint8_t *actions, size_t actions_length, uint64_t *owners, size_t owners_length, uint32_t a, uint32_t i);
 
 /* How many bytes the bench's text has, put into count. 0; 7, with count 0. */
 uint8_t dikothelm_image_text_size(const uint8_t *actions, size_t actions_length, const uint64_t *owners, size_t owners_length, size_t *count);
@@ -100,11 +108,11 @@ uint8_t dikothelm_image_save(const uint8_t *actions, size_t actions_length, cons
    length. Refused, it leaves an empty bench (a record of another length stays as it is). */
 uint8_t dikothelm_image_load(uint8_t *actions, size_t actions_length, uint64_t *owners, size_t owners_length, const uint8_t *text, size_t text_length);
 
-/* Plays lines of hexadecimal, each ended by a newline: 01nn open top, 02nnpp open sub, 03aaii read, 04aaii write, 05aa commit, 06aa abort; any other line
-   gets 8. For each line it writes the answer to out, two digits and a newline; bytes behind the answers stay. A call takes the input's first out_length / 3
-   bytes, or all where it has fewer: lend at least 3, since below that nothing is taken, and call again with the rest. progress says how many bytes were
-   taken and written and carries a begun line to the next call; dikothelm_image_finish ends the input. 0, or 7 where the record or progress has another
-   length. On an unsound record each line with a request gets 07. */
+/* Plays lines of hexadecimal, each ended by a newline: 01nn open top, 02nnpp open sub, 03aaii read, 04aaii write, 05aa commit, 06aa abort, 07aaii quiet; any
+   other line gets 8. For each line it writes the answer to out, two digits and a newline; bytes behind the answers stay. A call takes the input's first
+   out_length / 3 bytes, or all where it has fewer: lend at least 3, since below that nothing is taken, and call again with the rest. progress says how many
+   bytes were taken and written and carries a begun line to the next call; dikothelm_image_finish ends the input. 0, or 7 where the record or progress has
+   another length. On an unsound record each line with a request gets 07. */
 uint8_t dikothelm_image_play(uint8_t *actions, size_t actions_length, uint64_t *owners, size_t owners_length, uint64_t *progress, size_t progress_length,
                              const uint8_t *input, size_t input_length, uint8_t *out, size_t out_length);
 
@@ -166,6 +174,11 @@ static inline enum dikothelm_answer dikothelm_abort(dikothelm_bench *bench, uint
     return (enum dikothelm_answer)dikothelm_image_abort(DIKOTHELM_IMAGE_(bench), a);
 }
 
+/* 0, 1, 2, 7 or 10. */
+static inline enum dikothelm_answer dikothelm_quiet(dikothelm_bench *bench, uint32_t a, uint32_t i) {
+    return (enum dikothelm_answer)dikothelm_image_quiet(DIKOTHELM_IMAGE_(bench), a, i);
+}
+
 /* 0 or 7. */
 static inline enum dikothelm_answer dikothelm_text_size(const dikothelm_bench *bench, size_t *count) {
     return (enum dikothelm_answer)dikothelm_image_text_size(DIKOTHELM_IMAGE_(bench), count);
@@ -194,20 +207,30 @@ static inline enum dikothelm_answer dikothelm_finish(dikothelm_bench *bench, uin
 
 /* Looking at a bench, sound or not. */
 
-/* The state of number n, DIKOTHELM_FREE, DIKOTHELM_RUNNING or DIKOTHELM_COMMITTED (on an unsound record any byte); a number above 63 is free. */
+/* The aborted action that number n drains under, -1 where it doesn't drain. */
+static inline int dikothelm_head(const dikothelm_bench *bench, uint32_t n) {
+    const int head = n < DIKOTHELM_ACTIONS ? (int)bench->actions[DIKOTHELM_ACTIONS + n] - DIKOTHELM_DRAINING : -1;
+    return head >= 0 && head < DIKOTHELM_ACTIONS ? head : -1;
+}
+
+/* The state of number n, DIKOTHELM_FREE, DIKOTHELM_RUNNING, DIKOTHELM_COMMITTED or DIKOTHELM_DRAINING (on an unsound record any byte that means nothing); a
+   number above 63 is free. */
 static inline uint8_t dikothelm_state(const dikothelm_bench *bench, uint32_t n) {
+    if (dikothelm_head(bench, n) >= 0) return DIKOTHELM_DRAINING;
     return n < DIKOTHELM_ACTIONS ? bench->actions[DIKOTHELM_ACTIONS + n] : (uint8_t)DIKOTHELM_FREE;
 }
 
-/* The parent that the record has for number n, -1 where it has none: on a sound bench for a top action and a free number. An unsound record may have one for
-   a free number too, and any up to 254. -1 for a number above 63. */
+/* The parent that the record has for number n, -1 where it has none: on a sound bench for a top action, a free and a draining number. An unsound record may
+   have one for those too, and any up to 254. -1 for a number above 63. */
 static inline int dikothelm_parent(const dikothelm_bench *bench, uint32_t n) {
     return n < DIKOTHELM_ACTIONS ? (int)bench->actions[n] - 1 : -1;
 }
 
-/* The running action that number n's locks count for: the nearest running one among n and its ancestors; -1 if there is none. */
+/* The action that number n's locks count for: the nearest running one among n and its ancestors, or the aborted one that n drains under; -1 if there is
+   none. */
 static inline int dikothelm_heir(const dikothelm_bench *bench, uint32_t n) {
     int steps, k = n < DIKOTHELM_ACTIONS ? (int)n : -1;
+    if (dikothelm_head(bench, n) >= 0) return dikothelm_head(bench, n);
     for (steps = 0; steps < DIKOTHELM_ACTIONS && k >= 0 && k < DIKOTHELM_ACTIONS; steps++) {
         if (bench->actions[DIKOTHELM_ACTIONS + k] == DIKOTHELM_RUNNING) return k;
         k = (int)bench->actions[k] - 1;
@@ -215,7 +238,7 @@ static inline int dikothelm_heir(const dikothelm_bench *bench, uint32_t n) {
     return -1;
 }
 
-/* The read set of instrument i, bit k for number k, committed numbers too; empty for an instrument above 127. */
+/* The read set of instrument i, bit k for number k, committed and draining numbers too; empty for an instrument above 127. */
 static inline uint64_t dikothelm_readers(const dikothelm_bench *bench, uint32_t i) {
     return i < DIKOTHELM_INSTRUMENTS ? bench->owners[i] : 0;
 }
@@ -249,6 +272,7 @@ static inline const char *dikothelm_says(enum dikothelm_answer answer) {
     case DIKOTHELM_UNSOUND: return "the record isn't sound";
     case DIKOTHELM_MALFORMED: return "malformed";
     case DIKOTHELM_NO_ROOM: return "the buffer is too short";
+    case DIKOTHELM_NOT_DRAINING: return "it isn't an aborted action that drains there";
     }
     return "no answer of the table";
 }

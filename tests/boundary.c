@@ -1,5 +1,5 @@
-/* The header's functions, in C and in C++: the whole case, what only looks at a bench, saving, playing and ending the input at their edges, lines that look
-   right and aren't, records of other lengths, and NULL with length 0. */
+/* The header's functions, in C and in C++: the whole case, draining, what only looks at a bench, saving, playing and ending the input at their edges, lines
+   that look right and aren't, records of other lengths, and NULL with length 0. */
 #include "dikothelm.h"
 #include "dikothelm.h" /* twice does no harm */
 
@@ -35,17 +35,75 @@ static void the_whole_case(void) {
     SAME(dikothelm_write(&bench, 3, 5), 0);
     SAME(dikothelm_commit(&bench, 1), DIKOTHELM_RUNNING_CHILD);
     SAME(dikothelm_abort(&bench, 3), 0);
-    SAME(dikothelm_write(&bench, 1, 5), 0);
+    before = bench;
+    SAME(dikothelm_write(&bench, 1, 5), DIKOTHELM_NOT_GRANTED);
+    SAME(memcmp(&bench, &before, sizeof bench), 0);
     SAME(dikothelm_commit(&bench, 1), 0);
+    SAME(dikothelm_state(&bench, 3), DIKOTHELM_DRAINING);
+    SAME(dikothelm_open_top(&bench, 3), DIKOTHELM_NOT_FREE);
+    SAME(dikothelm_quiet(&bench, 3, 5), 0);
     memset(&before, 0, sizeof before);
     SAME(memcmp(&bench, &before, sizeof bench), 0);
+}
+
+/* 2 and what was opened under it drain together until both of their instruments are quiet; 1 is in the tree alone. */
+static void draining(void) {
+    dikothelm_bench bench, before;
+    dikothelm_empty(&bench);
+    dikothelm_open_top(&bench, 1);
+    dikothelm_open_sub(&bench, 2, 1);
+    dikothelm_open_sub(&bench, 63, 2);
+    dikothelm_open_sub(&bench, 4, 2);
+    dikothelm_write(&bench, 63, 5);
+    dikothelm_read(&bench, 63, 127);
+    dikothelm_commit(&bench, 63);
+    before = bench;
+    SAME(dikothelm_quiet(&bench, 2, 5), DIKOTHELM_NOT_DRAINING); /* it runs */
+    SAME(memcmp(&bench, &before, sizeof bench), 0);
+    SAME(dikothelm_abort(&bench, 2), 0);
+    SAME(dikothelm_sound(&bench), 0);
+    SAME(dikothelm_state(&bench, 1), DIKOTHELM_RUNNING);
+    SAME(dikothelm_state(&bench, 2), DIKOTHELM_DRAINING);
+    SAME(dikothelm_state(&bench, 4), DIKOTHELM_DRAINING);
+    SAME(dikothelm_state(&bench, 63), DIKOTHELM_DRAINING);
+    SAME(bench.actions[DIKOTHELM_ACTIONS + 63], DIKOTHELM_DRAINING + 2);
+    SAME(dikothelm_head(&bench, 1), -1);
+    SAME(dikothelm_head(&bench, 2), 2);
+    SAME(dikothelm_head(&bench, 63), 2);
+    SAME(dikothelm_head(&bench, 64), -1);
+    SAME(dikothelm_parent(&bench, 2), -1);
+    SAME(dikothelm_parent(&bench, 63), -1);
+    SAME(dikothelm_heir(&bench, 63), 2);
+    SAME(dikothelm_writers(&bench, 5), (uint64_t)1 << 63);
+    SAME(dikothelm_heirs(&bench, dikothelm_writers(&bench, 5)), 4);
+    SAME(dikothelm_read(&bench, 1, 5), DIKOTHELM_NOT_GRANTED);
+    SAME(dikothelm_read(&bench, 1, 127), 0);
+    SAME(dikothelm_write(&bench, 1, 127), DIKOTHELM_NOT_GRANTED);
+    SAME(dikothelm_open_sub(&bench, 9, 2), DIKOTHELM_NOT_RUNNING);
+    SAME(dikothelm_abort(&bench, 2), DIKOTHELM_NOT_RUNNING);
+    before = bench;
+    SAME(dikothelm_quiet(&bench, 63, 5), DIKOTHELM_NOT_DRAINING); /* it drains under 2 */
+    SAME(dikothelm_quiet(&bench, 2, 6), DIKOTHELM_NOT_DRAINING);
+    SAME(dikothelm_quiet(&bench, 2, 128), DIKOTHELM_NO_SUCH_INSTRUMENT);
+    SAME(dikothelm_quiet(&bench, 64, 128), DIKOTHELM_NO_SUCH_ACTION);
+    SAME(dikothelm_quiet(&bench, 256 + 2, 5), DIKOTHELM_NO_SUCH_ACTION);
+    SAME(memcmp(&bench, &before, sizeof bench), 0);
+    SAME(dikothelm_quiet(&bench, 2, 5), 0);
+    SAME(dikothelm_state(&bench, 4), DIKOTHELM_DRAINING);
+    SAME(dikothelm_write(&bench, 1, 5), 0);
+    SAME(dikothelm_quiet(&bench, 2, 127), 0);
+    SAME(dikothelm_state(&bench, 4), DIKOTHELM_FREE);
+    SAME(dikothelm_quiet(&bench, 2, 127), DIKOTHELM_NOT_DRAINING);
+    SAME(dikothelm_open_sub(&bench, 63, 1), 0);
+    SAME(dikothelm_abort(&bench, 63), 0); /* it owns nothing */
+    SAME(dikothelm_state(&bench, 63), DIKOTHELM_FREE);
 }
 
 static void numbers_at_the_edges(void) {
     dikothelm_bench bench;
     dikothelm_empty(&bench);
-    SAME(dikothelm_version(), 512);
-    SAME(DIKOTHELM_VERSION, 512);
+    SAME(dikothelm_version(), 768);
+    SAME(DIKOTHELM_VERSION, 768);
     SAME(DIKOTHELM_ACTIONS, 64);
     SAME(DIKOTHELM_INSTRUMENTS, 128);
     SAME(sizeof bench, 128 + 256 * 8);
@@ -62,6 +120,10 @@ static void numbers_at_the_edges(void) {
     SAME(dikothelm_commit(&bench, 256 + 63), 1);
     SAME(dikothelm_abort(&bench, 64), 1);
     SAME(dikothelm_abort(&bench, 0), 4);
+    SAME(dikothelm_quiet(&bench, 64, 128), 1);
+    SAME(dikothelm_quiet(&bench, 0, 128), 2);
+    SAME(dikothelm_quiet(&bench, 0, 0xffffffffu), 2);
+    SAME(dikothelm_quiet(&bench, 63, 127), 10);
 }
 
 static void looking_at_a_bench(void) {
@@ -93,16 +155,26 @@ static void looking_at_a_bench(void) {
     SAME(dikothelm_heir(&bench, 3), -1);
     SAME(dikothelm_heir(&bench, 64), -1);
     SAME(dikothelm_heirs(&bench, dikothelm_readers(&bench, 127)), (uint64_t)1 << 63 | 2);
-    memset(&bench, 3, sizeof bench); /* parents that run round, states that mean nothing */
+    memset(&bench, 3, sizeof bench); /* parents that run round */
+    SAME(dikothelm_heir(&bench, 5), 0); /* all drain under 0 */
+    memset(bench.actions + DIKOTHELM_ACTIONS, DIKOTHELM_COMMITTED, DIKOTHELM_ACTIONS);
     SAME(dikothelm_heir(&bench, 5), -1);
+    bench.actions[DIKOTHELM_ACTIONS + 5] = 66;
+    SAME(dikothelm_state(&bench, 5), DIKOTHELM_DRAINING);
+    SAME(dikothelm_head(&bench, 5), 63);
+    bench.actions[DIKOTHELM_ACTIONS + 5] = 67; /* a state that means nothing */
+    SAME(dikothelm_state(&bench, 5), 67);
+    SAME(dikothelm_head(&bench, 5), -1);
     memset(&bench, 255, sizeof bench);
+    SAME(dikothelm_state(&bench, 5), 255);
+    SAME(dikothelm_head(&bench, 5), -1);
     SAME(dikothelm_parent(&bench, 5), 254);
     SAME(dikothelm_heir(&bench, 5), -1);
     SAME(dikothelm_heirs(&bench, ~(uint64_t)0), 0);
 }
 
 static void saved_and_loaded(void) {
-    static const char text[] = "110101ff\n11020201\n120500000000000000000000000000000004\n";
+    static const char text[] = "110101ff\n11020201\n11030304\n11040304\n12050000000000000008000000000000000c\n";
     const size_t length = sizeof text - 1;
     dikothelm_bench bench, loaded, empty;
     uint8_t out[DIKOTHELM_LONGEST_TEXT];
@@ -113,6 +185,11 @@ static void saved_and_loaded(void) {
     dikothelm_open_sub(&bench, 2, 1);
     dikothelm_write(&bench, 2, 5);
     dikothelm_commit(&bench, 2);
+    dikothelm_open_sub(&bench, 4, 1);
+    dikothelm_open_sub(&bench, 3, 4);
+    dikothelm_read(&bench, 3, 5);
+    dikothelm_write(&bench, 3, 5);
+    dikothelm_abort(&bench, 4);
     memset(out, 0xaa, sizeof out);
     SAME(dikothelm_save(&bench, out, length - 1, &count), DIKOTHELM_NO_ROOM);
     SAME(count, 0);
@@ -187,8 +264,25 @@ static void text_sizes(void) {
     broken.actions[0] = 65;
     text_is("a parent above 63", &broken, DIKOTHELM_UNSOUND, 0);
     broken = bench;
-    broken.actions[DIKOTHELM_ACTIONS + 0] = 3;
+    broken.actions[DIKOTHELM_ACTIONS + 0] = 67;
     text_is("a state that means nothing", &broken, DIKOTHELM_UNSOUND, 0);
+    broken = bench;
+    broken.actions[DIKOTHELM_ACTIONS + 5] = DIKOTHELM_DRAINING + 5;
+    text_is("a draining number in no set", &broken, DIKOTHELM_UNSOUND, 0);
+    broken.owners[7] = (uint64_t)1 << 5;
+    text_is("a draining number in a set", &broken, DIKOTHELM_ACCEPTED, 3 * 9 + 3 * 37);
+    broken.actions[5] = 1 + 63;
+    text_is("a draining number with a parent", &broken, DIKOTHELM_UNSOUND, 0);
+    broken.actions[5] = 0;
+    broken.actions[DIKOTHELM_ACTIONS + 5] = DIKOTHELM_DRAINING + 63;
+    text_is("a number that drains under a running one", &broken, DIKOTHELM_UNSOUND, 0);
+    broken.actions[DIKOTHELM_ACTIONS + 5] = DIKOTHELM_DRAINING + 6;
+    text_is("a number that drains under a free one", &broken, DIKOTHELM_UNSOUND, 0);
+    broken.actions[DIKOTHELM_ACTIONS + 6] = DIKOTHELM_DRAINING + 6;
+    text_is("a group that drains under its head", &broken, DIKOTHELM_ACCEPTED, 4 * 9 + 3 * 37);
+    broken.actions[8] = 1 + 6;
+    broken.actions[DIKOTHELM_ACTIONS + 8] = DIKOTHELM_RUNNING;
+    text_is("a running action under a draining one", &broken, DIKOTHELM_UNSOUND, 0);
     memset(&bench, 0, sizeof bench);
     for (k = 0; k < DIKOTHELM_ACTIONS; k++) dikothelm_open_top(&bench, k);
     for (k = 0; k < DIKOTHELM_INSTRUMENTS; k++) dikothelm_write(&bench, k / 2, k);
@@ -228,8 +322,8 @@ static size_t play_whole(dikothelm_bench *bench, const uint8_t *trace, size_t le
 
 /* A trace from an empty bench, with so much room at each call. */
 static void played_with_room(size_t room) {
-    static const char trace[] = "0101\n020201\n020301\n040205\n030305\nxx\n\n0502\n030305";
-    static const char expected[] = "00\n00\n00\n00\n06\n08\n08\n00\n00\n";
+    static const char trace[] = "0101\n020201\n020301\n040205\n030305\nxx\n\n0702\n070205\n0602\n070205\n030305";
+    static const char expected[] = "00\n00\n00\n00\n06\n08\n08\n08\n0a\n00\n00\n00\n";
     dikothelm_bench bench;
     uint8_t said[64];
     dikothelm_empty(&bench);
@@ -238,12 +332,16 @@ static void played_with_room(size_t room) {
     SAME(dikothelm_readers(&bench, 5), 8);
 }
 
-/* A bench with 1 running; it would accept each of these frames. */
-static const char *const frames[] = {"0107", "020701", "030105", "040105", "0501", "0601"};
+/* A bench with 1 running and 2 draining at instrument 6; it would accept each of these frames. */
+static const char *const frames[] = {"0107", "020701", "030105", "040105", "0501", "0601", "070206"};
+enum { FRAMES = sizeof frames / sizeof *frames };
 static dikothelm_bench with_1_running(void) {
     dikothelm_bench bench;
     dikothelm_empty(&bench);
     dikothelm_open_top(&bench, 1);
+    dikothelm_open_top(&bench, 2);
+    dikothelm_write(&bench, 2, 6);
+    dikothelm_abort(&bench, 2);
     return bench;
 }
 
@@ -271,7 +369,7 @@ static void lines_that_look_right(void) {
     size_t f, k, place;
     unsigned byte;
     for (k = 0; k < sizeof lines / sizeof *lines; k++) malformed((const uint8_t *)lines[k], strlen(lines[k]), 3 + k);
-    for (f = 0; f < 6; f++) {
+    for (f = 0; f < FRAMES; f++) {
         const size_t length = strlen(frames[f]);
         dikothelm_bench bench = with_1_running();
         uint8_t said[3];
@@ -366,7 +464,7 @@ static void ends_of_input(void) {
     int unsound;
     for (unsound = 0; unsound <= 1; unsound++) {
         states_of_a_line("", "", unsound);
-        for (f = 0; f < 6; f++) {
+        for (f = 0; f < FRAMES; f++) {
             for (k = 1; k <= strlen(frames[f]); k++) {
                 memcpy(line, frames[f], k);
                 line[k] = 0;
@@ -375,6 +473,7 @@ static void ends_of_input(void) {
         }
         states_of_a_line("030180", unsound ? "07\n" : "02\n", unsound);
         states_of_a_line("0140", unsound ? "07\n" : "01\n", unsound);
+        states_of_a_line("070106", unsound ? "07\n" : "0a\n", unsound);
         for (k = 0; k < sizeof others / sizeof *others; k++) states_of_a_line(others[k], "08\n", unsound);
     }
 }
@@ -397,6 +496,7 @@ static void null_with_length_0(void) {
     SAME(dikothelm_image_write(NULL, 0, NULL, 0, 1, 1), 7);
     SAME(dikothelm_image_commit(NULL, 0, NULL, 0, 1), 7);
     SAME(dikothelm_image_abort(NULL, 0, NULL, 0, 1), 7);
+    SAME(dikothelm_image_quiet(NULL, 0, NULL, 0, 1, 1), 7);
     SAME(dikothelm_image_text_size(NULL, 0, NULL, 0, &count), 7);
     SAME(count, 0);
     count = 77;
@@ -449,6 +549,7 @@ static void other_lengths(size_t many_actions, size_t many_owners, size_t many_p
         SAME(dikothelm_image_write(actions, many_actions, owners, many_owners, 1, 1), 7);
         SAME(dikothelm_image_commit(actions, many_actions, owners, many_owners, 1), 7);
         SAME(dikothelm_image_abort(actions, many_actions, owners, many_owners, 1), 7);
+        SAME(dikothelm_image_quiet(actions, many_actions, owners, many_owners, 64, 128), 7);
         SAME(dikothelm_image_save(actions, many_actions, owners, many_owners, out, sizeof out, &count), 7);
         SAME(count, 0);
         count = 77;
@@ -474,10 +575,11 @@ static void answers_in_words(void) {
                                         "not granted: an action that is no ancestor owns it",
                                         "the record isn't sound",
                                         "malformed",
-                                        "the buffer is too short"};
+                                        "the buffer is too short",
+                                        "it isn't an aborted action that drains there"};
     int number;
-    for (number = 0; number <= 9; number++) SAME(strcmp(dikothelm_says((enum dikothelm_answer)number), words[number]), 0);
-    SAME(strcmp(dikothelm_says((enum dikothelm_answer)10), "no answer of the table"), 0);
+    for (number = 0; number <= 10; number++) SAME(strcmp(dikothelm_says((enum dikothelm_answer)number), words[number]), 0);
+    SAME(strcmp(dikothelm_says((enum dikothelm_answer)11), "no answer of the table"), 0);
     SAME(strcmp(dikothelm_says((enum dikothelm_answer)15), "no answer of the table"), 0);
 }
 
@@ -485,6 +587,7 @@ int main(void) {
     static const size_t actions[] = {0, 1, 64, 127, 129, 256}, owners[] = {0, 1, 128, 255, 257, 512}, words[] = {0, 3, 5, 8};
     size_t k, l;
     the_whole_case();
+    draining();
     numbers_at_the_edges();
     looking_at_a_bench();
     saved_and_loaded();

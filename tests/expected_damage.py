@@ -8,7 +8,7 @@ import sys
 
 import model
 import saved_model
-from expected_anything import following
+from expected_anything import following, state_byte
 
 # Sums
 
@@ -24,12 +24,12 @@ def halves(word):
 
 
 def values_of(record):
-    """Parents (0 for none, else one more than the number) and states number by number, then the sets instrument by instrument; numbers and
-    instruments that have none of them are left out."""
+    """Parents (0 for none, else one more than the number) and states (3 more than the head's number for draining) number by number, then the sets
+    instrument by instrument; numbers and instruments that have none of them are left out."""
     values = []
     for n, (parent, state) in enumerate(zip(record.parents, record.states)):
         if parent is not None or state:
-            values += [n] + halves(0 if parent is None else parent + 1) + halves(state)
+            values += [n] + halves(0 if parent is None else parent + 1) + halves(state_byte(record, n))
     for i, (reads, writes) in enumerate(zip(record.reads, record.writes)):
         if reads or writes:
             values += [i] + halves(saved_model.as_number(reads)) + halves(saved_model.as_number(writes))
@@ -80,6 +80,12 @@ def both_ends():
                   (model.OPEN_SUB, 1, 0), (model.OPEN_SUB, 62, 63))
 
 
+def two_groups():
+    """Beside a running top, 2 and 3 drain under 2, and 9 under itself."""
+    return played((model.OPEN_TOP, 1), (model.OPEN_SUB, 2, 1), (model.OPEN_SUB, 3, 2), (model.WRITE, 3, 5), (model.READ, 3, 6), (model.ABORT, 2),
+                  (model.OPEN_TOP, 9), (model.READ, 9, 6), (model.ABORT, 9))
+
+
 def full():
     opened = [(model.OPEN_TOP, 0)] + [(model.OPEN_SUB, k + 1, k // 2) for k in range(63)]
     locked = []
@@ -88,7 +94,8 @@ def full():
         if i % 3 == 0:
             locked.append((model.WRITE, i % 32 + 32, i))
     committed = [(model.COMMIT, n) for n in range(32, 64) if n % 5 == 0]
-    return played(*opened, *locked, *committed)
+    aborted = [(model.ABORT, n) for n in range(32, 64) if n % 5 == 1]
+    return played(*opened, *locked, *committed, *aborted)
 
 
 def unsound():
@@ -98,7 +105,7 @@ def unsound():
 
 
 # Which requests a number below 16 stands for.
-CHOICES = [model.OPEN_TOP] * 2 + [model.OPEN_SUB] * 5 + [model.READ] * 4 + [model.WRITE] * 3 + [model.COMMIT, model.ABORT]
+CHOICES = [model.OPEN_TOP] * 2 + [model.OPEN_SUB] * 4 + [model.READ] * 3 + [model.WRITE] * 3 + [model.COMMIT, model.ABORT] + [model.QUIET] * 2
 
 
 def walked(record, x, requests):
@@ -147,7 +154,7 @@ def changes_of(record, stride, total):
 def changes(total):
     lines = []
     on_a_walk, _ = walked(model.Record(), 1, 100)
-    for record, stride in [(one_top(), 1), (middle_of_the_trace(), 1), (both_ends(), 1), (on_a_walk, 1), (full(), 41)]:
+    for record, stride in [(one_top(), 1), (middle_of_the_trace(), 1), (both_ends(), 1), (two_groups(), 1), (on_a_walk, 1), (full(), 41)]:
         line, total = changes_of(record, stride, total)
         lines.append(line)
     return lines, total

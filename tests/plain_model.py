@@ -1,8 +1,9 @@
-"""The plain machine of document 01, for playing traces: sets of running owners only.
+"""The plain machine of document 01, and of order 2 in document 02, for playing traces: sets of running owners and of one draining owner for each abort.
 
 Written from the paragraph on the plain machine and the tables of requests and answers, and not from the set form: an action keeps the list of its
-ancestors from the moment it is opened; commit of a sub replaces it by its parent in every set; abort takes out the action and its descendants; a top's
-commit takes out the top.
+ancestors from the moment it is opened; commit of a sub replaces it by its parent in every set; a top's commit takes out the top. Abort puts the aborted
+action, as a draining owner, in the place of itself and its descendants; where they own nothing they are gone at once. What is quiet loses that owner, and
+with its last set it and all that was aborted with it are gone.
 """
 
 NUMBERS = 64
@@ -12,16 +13,37 @@ DIGITS = "0123456789abcdef"
 
 class Plain:
     def __init__(self):
-        self.ancestors = {}  # of each number in use, the parent first
+        self.ancestors = {}  # of each running or committed number, the parent first
         self.running = set()
+        self.draining = {}  # of each draining owner, the numbers that were aborted with it and that it keeps in use
         self.readers = [set() for _ in range(INSTRUMENTS)]
         self.writers = [set() for _ in range(INSTRUMENTS)]
+
+    def copy(self):
+        other = Plain()
+        other.ancestors = dict(self.ancestors)
+        other.running = set(self.running)
+        other.draining = dict(self.draining)
+        other.readers = [set(owners) for owners in self.readers]
+        other.writers = [set(owners) for owners in self.writers]
+        return other
 
     def has_running_child(self, a):
         return any(self.ancestors[k][:1] == [a] for k in self.running)
 
-    def take_out(self, a):
-        gone = {k for k in self.ancestors if k == a or a in self.ancestors[k]}
+    def in_use(self, n):
+        return n in self.ancestors or any(n in aborted for aborted in self.draining.values())
+
+    def with_descendants(self, a):
+        return {k for k in self.ancestors if k == a or a in self.ancestors[k]}
+
+    def instruments_of(self, owner):
+        return [i for i in range(INSTRUMENTS) if owner in self.readers[i] or owner in self.writers[i]]
+
+    def own_something(self, actions):
+        return not all(actions.isdisjoint(owners) for owners in self.readers + self.writers)
+
+    def take_out(self, gone):
         for k in gone:
             del self.ancestors[k]
         self.running -= gone
@@ -31,7 +53,7 @@ class Plain:
     def open_top(self, n):
         if n >= NUMBERS:
             return 1
-        if n in self.ancestors:
+        if self.in_use(n):
             return 3
         self.ancestors[n] = []
         self.running.add(n)
@@ -40,7 +62,7 @@ class Plain:
     def open_sub(self, n, p):
         if n >= NUMBERS or p >= NUMBERS:
             return 1
-        if n in self.ancestors:
+        if self.in_use(n):
             return 3
         if p not in self.running:
             return 4
@@ -71,7 +93,7 @@ class Plain:
         if self.has_running_child(a):
             return 5
         if not self.ancestors[a]:
-            self.take_out(a)
+            self.take_out(self.with_descendants(a))
             return 0
         parent = self.ancestors[a][0]
         self.running.remove(a)
@@ -86,7 +108,26 @@ class Plain:
             return 1
         if a not in self.running:
             return 4
-        self.take_out(a)
+        aborted = self.with_descendants(a)
+        left = [owners for owners in self.readers + self.writers if not aborted.isdisjoint(owners)]
+        self.take_out(aborted)
+        if left:
+            self.draining[a] = aborted
+        for owners in left:
+            owners.add(a)
+        return 0
+
+    def quiet(self, a, i):
+        if a >= NUMBERS:
+            return 1
+        if i >= INSTRUMENTS:
+            return 2
+        if a not in self.draining or a not in self.readers[i] | self.writers[i]:
+            return 10
+        self.readers[i].discard(a)
+        self.writers[i].discard(a)
+        if not self.own_something({a}):
+            del self.draining[a]
         return 0
 
     def line(self, text):
@@ -97,7 +138,7 @@ class Plain:
         if len(numbers) == 1:
             request = {1: self.open_top, 5: self.commit, 6: self.abort}.get(code)
         else:
-            request = {2: self.open_sub, 3: lambda a, i: self.ask(a, i, False), 4: lambda a, i: self.ask(a, i, True)}.get(code)
+            request = {2: self.open_sub, 3: lambda a, i: self.ask(a, i, False), 4: lambda a, i: self.ask(a, i, True), 7: self.quiet}.get(code)
         return 8 if request is None else request(*numbers)
 
 

@@ -1,5 +1,7 @@
 """Plays traces with the player and holds its answers to the plain machine's: seeded ones of every kind, every state of three actions and one instrument
-with every request, lines that are nearly a frame, and input that comes in pieces. What is played is counted by what it is."""
+with every request, lines that are nearly a frame, and input that comes in pieces. What is played is counted by what it is.
+
+With --frees-at-once the player is one that frees an aborted action at once, so that no trace aborts an owner."""
 
 import collections
 import os
@@ -53,13 +55,14 @@ def small_requests():
     """Every request on the numbers 0 to 2 and instrument 0."""
     lines = []
     for n in range(3):
-        lines += ["01%02x" % n, "05%02x" % n, "06%02x" % n, "03%02x00" % n, "04%02x00" % n]
+        lines += ["01%02x" % n, "05%02x" % n, "06%02x" % n, "03%02x00" % n, "04%02x00" % n, "07%02x00" % n]
         lines += ["02%02x%02x" % (n, p) for p in range(3)]
     return lines
 
 
 def signature(machine):
     return (tuple(sorted((k, tuple(v)) for k, v in machine.ancestors.items())), tuple(sorted(machine.running)),
+            tuple(sorted((a, tuple(sorted(aborted))) for a, aborted in machine.draining.items())),
             tuple(sorted(machine.readers[0])), tuple(sorted(machine.writers[0])))
 
 
@@ -70,13 +73,13 @@ def reached(way):
     return machine
 
 
-def small_states():
-    """A way to every state that three actions and one instrument reach."""
+def small_states(requests):
+    """A shortest way to every state that the requests reach."""
     ways = {signature(plain_model.Plain()): []}
-    left = [[]]
+    left = collections.deque([[]])
     while left:
-        way = left.pop()
-        for line in small_requests():
+        way = left.popleft()
+        for line in requests(reached(way)):
             machine = reached(way + [line])
             if signature(machine) not in ways:
                 ways[signature(machine)] = way + [line]
@@ -84,14 +87,17 @@ def small_states():
     return list(ways.values())
 
 
-def every_small_state():
-    """One trace: each state, each request on it, and back to an empty bench."""
-    lines = []
-    back = ["0600", "0601", "0602"]
-    for way in small_states():
-        for request in small_requests():
-            lines += way + [request] + back
-    return "\n".join(lines) + "\n"
+def every_small_state(drains):
+    """One trace: each state that three actions and one instrument reach, each request on it, and back to an empty bench."""
+    def requests(machine):
+        return [line for line in small_requests() if drains or not traces.begins_draining(machine, line)]
+
+    made = traces.Said(drains)
+    for way in small_states(requests):
+        for line in requests(reached(way)):
+            made.say(*way, line)
+            made.free_all()
+    return made.text()
 
 
 def ends_of_input():
@@ -102,11 +108,12 @@ def ends_of_input():
 
 
 class Held:
-    """A program, the model that says what it has to write, and how many lines of which sort it was held to."""
+    """A program, the model that says what it has to write, whether what it aborts drains, and how many lines of which sort it was held to."""
 
-    def __init__(self, path, model):
+    def __init__(self, path, model, drains=True):
         self.program = Program(path)
         self.model = model
+        self.drains = drains
         self.counts = collections.Counter()
         self.answers = collections.Counter()
         self.failures = 0
@@ -137,13 +144,13 @@ class Held:
     def all(self, seeds):
         for kind in traces.KINDS:
             for seed in seeds:
-                self.whole(SEEDED, "%s %d" % (kind, seed), traces.trace(kind, seed, LINES))
-        self.whole(WALK, "every state of 3 actions and 1 instrument", every_small_state())
+                self.whole(SEEDED, "%s %d" % (kind, seed), traces.trace(kind, seed, LINES, self.drains))
+        self.whole(WALK, "every state of 3 actions and 1 instrument", every_small_state(self.drains))
         for name, lines in traces.NEARLY_FRAMES.items():
-            self.whole(NEARLY, name, traces.shown(lines()))
+            self.whole(NEARLY, name, traces.shown(lines(), self.drains))
         for text in ends_of_input():
             self.whole(ENDS, "end of input behind %r" % text, text)
-        damaged = traces.trace("damaged", 9, 4000)
+        damaged = traces.trace("damaged", 9, 4000, self.drains)
         self.pieces("damaged trace in pieces", damaged, random_pieces(data_of(damaged), 9))
         refused = read_trace(REFUSED_LINES)
         self.pieces("refused lines byte by byte", refused, cut(data_of(refused), 1))
@@ -159,7 +166,7 @@ class Held:
 
 
 def main():
-    held = Held(sys.argv[1], plain_model.play)
+    held = Held(sys.argv[1], plain_model.play, drains=sys.argv[2:] != ["--frees-at-once"])
     held.all(SEEDS)
     held.conclude("player")
 

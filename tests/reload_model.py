@@ -11,6 +11,7 @@ INSTRUMENTS = 128
 NO_PARENT = 0xFF
 RUNNING = 1
 COMMITTED = 2
+DRAINING = 3
 DIGITS = b"0123456789abcdef"
 
 ACCEPTED = 0
@@ -23,7 +24,7 @@ class Malformed(Exception):
 
 
 class Bench:
-    """The numbers that aren't free, each with its state and parent, and the sets that aren't empty."""
+    """The numbers that aren't free, each with its state and with its parent or, if it drains, the aborted action; and the sets that aren't empty."""
 
     def __init__(self):
         self.actions = {}
@@ -72,13 +73,13 @@ def last(numbers_read):
 def read_action(line, bench):
     """Takes a line 11 nn ss pp into the bench."""
     refuse_unless(len(line) == 8, "an 11 frame has another length")
-    number, state, parent = byte_at(line, 1), byte_at(line, 2), byte_at(line, 3)
+    number, state, above = byte_at(line, 1), byte_at(line, 2), byte_at(line, 3)
     refuse_unless(number < NUMBERS, "nn is above 63")
-    refuse_unless(state in (RUNNING, COMMITTED), "ss is neither 01 nor 02")
-    refuse_unless(parent < NUMBERS or parent == NO_PARENT, "pp is neither below 64 nor ff")
+    refuse_unless(state in (RUNNING, COMMITTED, DRAINING), "ss is none of 01, 02 and 03")
+    refuse_unless(above < NUMBERS or above == NO_PARENT, "pp is neither below 64 nor ff")
     refuse_unless(not bench.read_sets, "an 11 frame stands after a 12 frame")
     refuse_unless(number > last(bench.actions), "action numbers do not rise")
-    bench.actions[number] = (state, None if parent == NO_PARENT else parent)
+    bench.actions[number] = (state, None if above == NO_PARENT else above)
 
 
 def read_instrument(line, bench):
@@ -106,9 +107,14 @@ def bench_of(text):
     return bench
 
 
+def in_the_tree(bench):
+    """The numbers that don't drain, each with its state and parent: those that rules 1, 3 and 4 speak of."""
+    return {number: (state, parent) for number, (state, parent) in bench.actions.items() if state != DRAINING}
+
+
 def tops_run(bench):
     """Rule 1: a top action is running."""
-    return all(state == RUNNING for state, parent in bench.actions.values() if parent is None)
+    return all(state == RUNNING for state, parent in in_the_tree(bench).values() if parent is None)
 
 
 def free_numbers_stand_nowhere(bench):
@@ -119,14 +125,15 @@ def free_numbers_stand_nowhere(bench):
 
 
 def parents_lead_to_a_top(bench):
-    """Rule 3: each parent isn't free, and at most 63 steps from parent to parent reach a top action."""
-    for number in bench.actions:
+    """Rule 3: each parent isn't free, nor does it drain, and at most 63 steps from parent to parent reach a top action."""
+    tree = in_the_tree(bench)
+    for number in tree:
         here = number
         steps = 0
-        while bench.actions[here][1] is not None:
-            here = bench.actions[here][1]
+        while tree[here][1] is not None:
+            here = tree[here][1]
             steps += 1
-            if here not in bench.actions or steps > 63:
+            if here not in tree or steps > 63:
                 return False
     return True
 
@@ -140,7 +147,34 @@ def running_stand_under_running(bench):
     return True
 
 
-SOUND_RULES = (tops_run, free_numbers_stand_nowhere, parents_lead_to_a_top, running_stand_under_running)
+def draining_groups(bench):
+    """The numbers that drain, together with those that drain under the same one."""
+    groups = {}
+    for number, (state, head) in bench.actions.items():
+        if state == DRAINING:
+            groups.setdefault(head, set()).add(number)
+    return groups
+
+
+def heads_drain_under_themselves(bench):
+    """The aborted action that a number drains under is one, and drains under itself."""
+    return all(head in numbers for head, numbers in draining_groups(bench).items())
+
+
+def groups_stand_somewhere(bench):
+    """Of all numbers that drain under one action, one stands in a set."""
+    standing = frozenset().union(*bench.read_sets.values(), *bench.write_sets.values())
+    return all(standing & numbers for numbers in draining_groups(bench).values())
+
+
+SOUND_RULES = {
+    "rule 1": tops_run,
+    "rule 2": free_numbers_stand_nowhere,
+    "rule 3": parents_lead_to_a_top,
+    "rule 4": running_stand_under_running,
+    "draining heads": heads_drain_under_themselves,
+    "draining groups": groups_stand_somewhere,
+}
 
 
 def load(text):
@@ -149,7 +183,7 @@ def load(text):
         bench = bench_of(text)
     except Malformed:
         return MALFORMED, Bench()
-    if not all(rule(bench) for rule in SOUND_RULES):
+    if not all(rule(bench) for rule in SOUND_RULES.values()):
         return UNSOUND, Bench()
     return ACCEPTED, bench
 
@@ -165,8 +199,8 @@ def save(bench):
     lines = []
     for number in range(NUMBERS):
         if number in bench.actions:
-            state, parent = bench.actions[number]
-            lines.append("11%02x%02x%02x\n" % (number, state, NO_PARENT if parent is None else parent))
+            state, above = bench.actions[number]
+            lines.append("11%02x%02x%02x\n" % (number, state, NO_PARENT if above is None else above))
     for instrument in range(INSTRUMENTS):
         readers = bench.read_sets.get(instrument, frozenset())
         writers = bench.write_sets.get(instrument, frozenset())
@@ -187,4 +221,4 @@ def broken_by(text):
         bench = bench_of(text)
     except Malformed as refusal:
         return [str(refusal)]
-    return ["rule %d" % number for number, rule in enumerate(SOUND_RULES, 1) if not rule(bench)]
+    return [name for name, rule in SOUND_RULES.items() if not rule(bench)]

@@ -16,7 +16,7 @@ from programs import Program, cut
 GOOD, UNSOUND, MALFORMED = 0, 7, 8
 NUMBERS = range(64)
 INSTRUMENTS = range(128)
-RUNNING, COMMITTED = 1, 2
+RUNNING, COMMITTED, DRAINING = 1, 2, 3
 TOP = 0xff
 DIGITS = "0123456789abcdef"
 
@@ -39,15 +39,22 @@ def family(parents, state=RUNNING):
     return "".join(action(n, state, parents[n]) for n in sorted(parents))
 
 
+def group(head, numbers):
+    """Numbers that drain under a head."""
+    return "".join(action(n, DRAINING, head) for n in numbers)
+
+
 def chain(numbers, first_parent):
     """Parents by number: each number stands under the one before it in the list."""
     return dict(zip(numbers, [first_parent] + list(numbers[:-1])))
 
 
 ALL_TOPS = tops(NUMBERS)
-LONGEST = ALL_TOPS + "".join(instrument(i, NUMBERS, NUMBERS) for i in INSTRUMENTS)
+ALL_INSTRUMENTS = "".join(instrument(i, NUMBERS, NUMBERS) for i in INSTRUMENTS)
+# Tops, numbers that drain under 61 and numbers that drain under 62, in turn.
+LONGEST = "".join(action(n, DRAINING, n % 3 + 60) if n % 3 else action(n, RUNNING, TOP) for n in NUMBERS) + ALL_INSTRUMENTS
 TOP_1 = action(1, RUNNING, TOP)
-SHORT = TOP_1 + action(2, RUNNING, 1) + instrument(5, [1, 2], [2])
+SHORT = TOP_1 + action(2, RUNNING, 1) + action(3, DRAINING, 3) + instrument(5, [1, 2], [2, 3])
 
 
 # Good texts
@@ -57,14 +64,21 @@ def good_edges():
     """Every number, parent and instrument once at least, longest chains, and the longest text."""
     yield ""
     yield ALL_TOPS
+    yield ALL_TOPS + ALL_INSTRUMENTS
     yield LONGEST
     yield SHORT
     for n in NUMBERS:
         other = (n * 37 + 5) % 64
         yield tops([n])
+        yield group(n, [n]) + instrument(n, [n], [])
+        yield group(n, NUMBERS) + instrument(n, [], [other])
+        yield group(n, NUMBERS) + ALL_INSTRUMENTS
         if other != n:
             for state in (RUNNING, COMMITTED):
                 yield "".join(sorted([action(n, RUNNING, TOP), action(other, state, n)]))
+            for standing in (n, other):
+                yield "".join(sorted([action(n, DRAINING, n), action(other, DRAINING, n)])) + instrument(64 + n, [], [standing])
+            yield "".join(sorted([action(n, DRAINING, n), action(other, RUNNING, TOP)])) + instrument(64 + n, [n], [other])
         yield tops([n]) + instrument(n, [n], [])
         yield tops([n]) + instrument(64 + n, [], [n])
     for i in INSTRUMENTS:
@@ -74,7 +88,7 @@ def good_edges():
         deep = chain(order, TOP)
         yield family(deep)
         yield "".join(action(n, RUNNING if n == order[0] else COMMITTED, deep[n]) for n in NUMBERS)
-        yield family(deep) + "".join(instrument(i, NUMBERS, NUMBERS) for i in INSTRUMENTS)
+        yield family(deep) + ALL_INSTRUMENTS
 
 
 def some_of(chance, numbers):
@@ -82,9 +96,8 @@ def some_of(chance, numbers):
     return [n for n in numbers if chance.random() < share]
 
 
-def sound_bench(chance):
-    """A text of a random sound bench: a forest in which nothing runs under a committed one."""
-    order = chance.sample(NUMBERS, chance.randrange(65))
+def forest(chance, order):
+    """States and parents by number: nothing runs under a committed one."""
     lone = chance.random()
     states, parents = {}, {}
     for at, n in enumerate(order):
@@ -93,11 +106,33 @@ def sound_bench(chance):
         else:
             parents[n] = chance.choice(order[:at])
             states[n] = COMMITTED if states[parents[n]] == COMMITTED else chance.choice([RUNNING, COMMITTED])
-    lines = [action(n, states[n], parents[n]) for n in sorted(order)]
-    for i in some_of(chance, INSTRUMENTS):
-        readers, writers = some_of(chance, order), some_of(chance, order)
-        if readers or writers:
-            lines.append(instrument(i, readers, writers))
+    return states, parents
+
+
+def draining(chance, numbers):
+    """The heads of some of the numbers, by number: each drains under itself or under one that was chosen before it."""
+    heads = {}
+    for n in some_of(chance, chance.sample(numbers, len(numbers))):
+        firsts = sorted(set(heads.values()))
+        heads[n] = chance.choice(firsts) if firsts and chance.random() < 0.7 else n
+    return heads
+
+
+def sound_bench(chance):
+    """A text of a random sound bench: a forest, and groups that drain, of each of which one number stands in a set."""
+    order = chance.sample(NUMBERS, chance.randrange(65))
+    states, parents = forest(chance, order)
+    heads = draining(chance, [n for n in NUMBERS if n not in states])
+    order += heads
+    readers = {i: set(some_of(chance, order)) for i in some_of(chance, INSTRUMENTS)}
+    writers = {i: set(some_of(chance, order)) for i in some_of(chance, INSTRUMENTS)}
+    for head in sorted(set(heads.values())):
+        member = chance.choice([n for n in heads if heads[n] == head])
+        chance.choice([readers, writers]).setdefault(chance.choice(INSTRUMENTS), set()).add(member)
+    lines = [action(n, DRAINING, heads[n]) if n in heads else action(n, states[n], parents[n]) for n in sorted(order)]
+    for i in INSTRUMENTS:
+        if readers.get(i) or writers.get(i):
+            lines.append(instrument(i, readers.get(i, ()), writers.get(i, ())))
     return "".join(lines)
 
 
@@ -112,7 +147,7 @@ def benches_after_requests(count):
     for _ in range(count):
         record = model.Record()
         for _ in range(chance.randrange(120)):
-            kind = chance.choice([1, 2, 2, 2, 3, 3, 4, 4, 5, 6])
+            kind = chance.choice([1, 2, 2, 2, 3, 3, 4, 4, 5, 6, 7])
             _, record = model.request(record, kind, chance.randrange(12), chance.randrange(12))
         yield saved_model.text_of(record).decode()
 
@@ -171,12 +206,51 @@ def running_under_committed():
             yield "".join(action(k, COMMITTED if k == n else RUNNING, deep[k]) for k in NUMBERS)
 
 
+def under_draining():
+    """A running and a committed number under one that drains."""
+    for n in NUMBERS:
+        other = (n + 13) % 64
+        for state in (RUNNING, COMMITTED):
+            yield "".join(sorted([action(n, DRAINING, n), action(other, state, n)])) + instrument(5, [n], [other])
+
+
+def other_heads():
+    """Draining under nobody, or under a number that is free, runs, has committed or drains under another; two that drain under each other."""
+    for n in NUMBERS:
+        other, third = (n + 21) % 64, (n + 42) % 64
+        standing = instrument(n, [n], [])
+        yield action(n, DRAINING, TOP) + standing
+        yield action(n, DRAINING, other) + standing
+        for lines in (
+            [action(other, RUNNING, TOP)],
+            [action(third, RUNNING, TOP), action(other, COMMITTED, third)],
+            [action(other, DRAINING, n)],
+            [action(other, DRAINING, third), action(third, DRAINING, third)],
+        ):
+            numbers = [int(line[2:4], 16) for line in lines]
+            yield "".join(sorted(lines + [action(n, DRAINING, other)])) + instrument(n, [n], numbers)
+
+
+def groups_in_no_set():
+    """Groups of one, of two and of all, and one in no set beside others that stand in sets."""
+    for n in NUMBERS:
+        other = (n + 1) % 64
+        yield group(n, [n])
+        yield group(n, sorted([n, other]))
+        yield group(n, NUMBERS)
+        yield "".join(action(k, DRAINING, k) for k in NUMBERS) + instrument(n, [k for k in NUMBERS if k != n], [other])
+        yield "".join(action(k, DRAINING, n) if k == n else action(k, RUNNING, TOP) for k in NUMBERS) + instrument(n, [other], [])
+
+
 UNSOUND_KINDS = [
     ("committed top", "rule 1", committed_tops),
     ("free number in a set", "rule 2", free_numbers_in_sets),
     ("free parent", "rule 3", free_parents),
     ("ring or own parent", "rule 3", rings),
     ("running under committed", "rule 4", running_under_committed),
+    ("running or committed under draining", "rule 3", under_draining),
+    ("draining under no head", "draining heads", other_heads),
+    ("draining in no set", "draining groups", groups_in_no_set),
 ]
 
 
@@ -187,7 +261,7 @@ def other_bytes():
     """Every byte but 0a and the digits, in an action's and an instrument's frame."""
     for byte in range(256):
         if byte != 0x0a and chr(byte) not in DIGITS:
-            for at in (0, byte % 8, 8, 18 + byte % 36, len(SHORT) - 1):
+            for at in (0, byte % 8, 8, len(SHORT) - 37 + byte % 36, len(SHORT) - 1):
                 yield SHORT[:at] + chr(byte) + SHORT[at + 1:]
             yield SHORT + chr(byte)
             yield chr(byte)
@@ -223,13 +297,15 @@ def other_parents():
     for parent in range(64, 255):
         yield action(1, RUNNING, parent)
         yield TOP_1 + action(2, COMMITTED, parent)
+        yield action(1, DRAINING, parent) + instrument(5, [1], [])
 
 
 def other_states():
     for state in range(256):
-        if state not in (RUNNING, COMMITTED):
+        if state not in (RUNNING, COMMITTED, DRAINING):
             yield action(1, state, TOP)
             yield TOP_1 + action(2, state, 1)
+            yield action(1, state, 1) + instrument(5, [1], [])
 
 
 def other_codes():
@@ -292,7 +368,7 @@ def missing_ends():
 def malformed_and_unsound():
     """Both malformed and unsound: 8 comes first, wherever the malformed line stands."""
     for unsound in (action(1, COMMITTED, TOP), action(1, RUNNING, 1), action(1, RUNNING, 2), TOP_1 + instrument(5, [2], [])):
-        for wrong in ("\n", "0\n", action(0, 3, TOP), action(64, RUNNING, TOP), instrument(128, [1], []), "x"):
+        for wrong in ("\n", "0\n", action(0, 4, TOP), action(64, RUNNING, TOP), instrument(128, [1], []), "x"):
             yield unsound + wrong
             yield wrong + unsound
 
@@ -312,7 +388,7 @@ MALFORMED_KINDS = [
     ("number above 63", "nn is above 63", numbers_above_63),
     ("instrument above 127", "ii is above 127", instruments_above_127),
     ("other parent", "pp is neither below 64 nor ff", other_parents),
-    ("other state", "ss is neither 01 nor 02", other_states),
+    ("other state", "ss is none of 01, 02 and 03", other_states),
     ("other code", "a line is neither an 11 frame nor a 12 frame", other_codes),
     ("11 after 12", "an 11 frame stands after a 12 frame", actions_behind_instruments),
     ("actions out of order", "action numbers do not rise", actions_out_of_order),

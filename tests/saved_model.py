@@ -1,4 +1,4 @@
-"""A plain reader and writer of the saved form, written from document 01 alone, over the model's records."""
+"""A plain reader and writer of the saved form, written from document 01, and order 2 of document 02, alone, over the model's records."""
 
 from functools import lru_cache
 
@@ -16,7 +16,7 @@ LINE_END = b"\n"
 ACTION_DIGITS = 8
 INSTRUMENT_DIGITS = 36
 
-STATES = (model.RUNNING, model.COMMITTED)
+STATES = (model.RUNNING, model.COMMITTED, model.DRAINING)
 NO_PARENT = 0xff
 
 
@@ -45,8 +45,9 @@ def as_set(number):
 
 
 def action_line(record, n):
-    parent = NO_PARENT if record.parents[n] is None else record.parents[n]
-    return f"11{n:02x}{record.states[n]:02x}{parent:02x}\n"
+    """The line of a number: its state, and its parent or the aborted action that it drains under."""
+    above = record.heads[n] if record.states[n] == model.DRAINING else record.parents[n]
+    return f"11{n:02x}{record.states[n]:02x}{NO_PARENT if above is None else above:02x}\n"
 
 
 def instrument_line(record, i):
@@ -91,9 +92,9 @@ def has_other_length(line):
 
 
 def action_out_of_range(line):
-    """nn above 63, ss other than 01 or 02, or pp neither below 64 nor ff."""
-    n, state, parent = bytes.fromhex(line[2:].decode("ascii"))
-    return n > 63 or state not in STATES or (parent >= 64 and parent != NO_PARENT)
+    """nn above 63, ss other than 01, 02 or 03, or pp neither below 64 nor ff."""
+    n, state, above = bytes.fromhex(line[2:].decode("ascii"))
+    return n > 63 or state not in STATES or (above >= 64 and above != NO_PARENT)
 
 
 def instrument_out_of_range(line):
@@ -137,9 +138,10 @@ def record_in(text):
     for line in text.split(LINE_END)[:-1]:
         number = int(line[2:4], 16)
         if line[:2] == b"11":
-            parent = int(line[6:8], 16)
-            record.states[number] = int(line[4:6], 16)
-            record.parents[number] = None if parent == NO_PARENT else parent
+            state, above = int(line[4:6], 16), int(line[6:8], 16)
+            record.states[number] = state
+            place = record.heads if state == model.DRAINING else record.parents
+            place[number] = None if above == NO_PARENT else above
         else:
             record.reads[number] = as_set(int(line[4:20], 16))
             record.writes[number] = as_set(int(line[20:], 16))

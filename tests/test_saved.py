@@ -1,10 +1,11 @@
-"""The readers and writers on document 01's saved form: each clause of what has another shape, texts that break a rule, and round trips."""
+"""The readers and writers on the saved form of document 01 and of order 2: each clause of what has another shape, texts that break a rule, and round
+trips."""
 
 import sys
 
 import model
 import reload_model
-from model import ABORT, COMMIT, COMMITTED, OPEN_SUB, OPEN_TOP, READ, RUNNING, WRITE, Record, request
+from model import ABORT, COMMIT, COMMITTED, DRAINING, OPEN_SUB, OPEN_TOP, QUIET, READ, RUNNING, WRITE, Record, request
 from saved_model import LONGEST_TEXT, load, save, text_of
 
 NO_NUMBERS = "0" * 16
@@ -16,6 +17,8 @@ TOP_0 = "110001ff\n"
 TOP_1 = "110101ff\n"
 SUB_2 = "11020101\n"
 COMMITTED_2 = "11020201\n"
+DRAINING_1 = "11010301\n"
+DRAINING_2_UNDER_1 = "11020301\n"
 READ_BY_1 = "1205" + NUMBER_1 + NO_NUMBERS + "\n"
 WRITTEN_BY_1 = "1206" + NO_NUMBERS + NUMBER_1 + "\n"
 
@@ -34,6 +37,12 @@ ACCEPTED = {
     "bit 63 leftmost": "113f01ff\n1200" + NUMBER_63 + NUMBER_63 + "\n",
     "two tops in one write set": TOP_0 + TOP_1 + "1205" + NO_NUMBERS + "0000000000000003\n",
     "numbers and instruments rise apart": "112001ff\n1200" + "0000000100000000" + NO_NUMBERS + "\n",
+    "a draining number": DRAINING_1 + READ_BY_1,
+    "a group, its head in a set": DRAINING_1 + DRAINING_2_UNDER_1 + WRITTEN_BY_1,
+    "a group, its head in no set": DRAINING_1 + DRAINING_2_UNDER_1 + "1205" + NUMBER_2 + NO_NUMBERS + "\n",
+    "a head above its group": "11010302\n11020302\n" + READ_BY_1,
+    "two groups beside a top": TOP_0 + DRAINING_1 + "11020302\n" + "1205" + NUMBER_1 + NUMBER_2 + "\n",
+    "the last number drains": "113f033f\n127f" + NO_NUMBERS + NUMBER_63 + "\n",
 }
 
 # Texts of another shape, by the clauses of the document's sentence.
@@ -69,7 +78,10 @@ MALFORMED = {
     "parent 64": "11010140\n",
     "parent 254": "110101fe\n",
     "state 00": "110100ff\n",
-    "state 03": "110103ff\n",
+    "state 04": "110104ff\n",
+    "state 04 under itself": "11010401\n" + READ_BY_1,
+    "draining under 64": "11010340\n" + READ_BY_1,
+    "draining under 254": "110103fe\n" + READ_BY_1,
     "state 11": "110111ff\n",
     "an 11 frame after a 12 frame": TOP_1 + READ_BY_1 + "110201ff\n",
     "a 12 frame first": "1205" + NUMBER_1 + NO_NUMBERS + "\n" + TOP_1,
@@ -95,6 +107,16 @@ UNSOUND = {
     "rule 3, a ring of two": "11010102\n11020101\n",
     "rule 3, a ring of all": "".join(f"11{n:02x}01{(n + 1) % 64:02x}\n" for n in range(64)),
     "rule 4, a running one under a committed one": TOP_1 + COMMITTED_2 + "11030102\n",
+    "draining under nobody": "110103ff\n" + READ_BY_1,
+    "draining in no set": DRAINING_1,
+    "a group in no set": DRAINING_1 + DRAINING_2_UNDER_1,
+    "a group in no set beside one in a set": DRAINING_1 + "11020302\n" + READ_BY_1,
+    "draining under a free number": DRAINING_2_UNDER_1 + "1205" + NUMBER_2 + NO_NUMBERS + "\n",
+    "draining under a running number": TOP_1 + DRAINING_2_UNDER_1 + "1205" + NUMBER_2 + NO_NUMBERS + "\n",
+    "draining under one that drains under another": "11010302\n11020303\n11030303\n" + READ_BY_1 + WRITTEN_BY_1,
+    "two that drain under each other": "11010302\n" + DRAINING_2_UNDER_1 + READ_BY_1,
+    "a running one under a draining one": DRAINING_1 + SUB_2 + READ_BY_1,
+    "a committed one under a draining one": DRAINING_1 + COMMITTED_2 + READ_BY_1,
 }
 
 
@@ -111,10 +133,11 @@ def played(*requests):
 
 
 def full():
-    """All numbers and sets at all instruments."""
+    """All numbers and sets at all instruments; two of three numbers drain, in two groups."""
     record = Record()
     for n in range(64):
-        record.states[n] = RUNNING
+        record.states[n] = DRAINING if n % 3 else RUNNING
+        record.heads[n] = n % 3 + 60 if n % 3 else None
     for i in range(128):
         record.reads[i] = set(range(64))
         record.writes[i] = {63 - i % 64}
@@ -137,7 +160,13 @@ TEXTS = {
     "a read by the write owner": (
         played((OPEN_TOP, 1), (WRITE, 1, 5), (READ, 1, 5)),
         TOP_1 + "1205" + NUMBER_1 + NUMBER_1 + "\n"),
-    "nothing is left of an aborted top": (played((OPEN_TOP, 1), (WRITE, 1, 5), (ABORT, 1)), ""),
+    "nothing is left of an aborted top that owned nothing": (played((OPEN_TOP, 1), (OPEN_SUB, 2, 1), (ABORT, 1)), ""),
+    "an aborted top drains": (played((OPEN_TOP, 1), (OPEN_SUB, 2, 1), (WRITE, 2, 6), (ABORT, 1)),
+                              DRAINING_1 + DRAINING_2_UNDER_1 + "1206" + NO_NUMBERS + NUMBER_2 + "\n"),
+    "an aborted sub drains beside its parent": (played((OPEN_TOP, 1), (OPEN_SUB, 2, 1), (WRITE, 2, 6), (ABORT, 2)),
+                                                TOP_1 + "11020302\n1206" + NO_NUMBERS + NUMBER_2 + "\n"),
+    "one of two instruments is quiet": (played((OPEN_TOP, 1), (READ, 1, 5), (WRITE, 1, 6), (ABORT, 1), (QUIET, 1, 6)), DRAINING_1 + READ_BY_1),
+    "nothing is left once all is quiet": (played((OPEN_TOP, 1), (READ, 1, 5), (ABORT, 1), (QUIET, 1, 5)), ""),
 }
 
 # Saves with the answer and how many bytes are written.

@@ -4,25 +4,59 @@ A character of a trace is one byte: its code is the byte's value.
 """
 
 import random
+import re
 
-from plain_model import Plain
+from plain_model import Plain, lines_of
 
 MALFORMED = ["", "0", "01", "0A01", "010", "0101\r", "01010101", "0001", "0701", "zz", "0 01", "0301", "01 01", "x" * 300]
 
 
-class Trace:
-    """Lines that follow a plain machine, so that most requests make sense."""
+def begins_draining(machine, line):
+    """Whether a line aborts an action that owns something, by itself or through its descendants."""
+    if not re.fullmatch("06[0-9a-f]{2}", line):
+        return False
+    a = int(line[2:], 16)
+    return a in machine.running and machine.own_something(machine.with_descendants(a))
 
-    def __init__(self, seed, numbers, instruments):
-        self.random = random.Random(seed)
+
+class Said:
+    """Lines, and a plain machine that has played them. Where `drains` is false a line that begins draining is left out, so that the lines are also for a
+    player that frees an aborted action at once."""
+
+    def __init__(self, drains=True):
         self.machine = Plain()
-        self.numbers = numbers
-        self.instruments = instruments
+        self.drains = drains
         self.lines = []
 
-    def say(self, text):
-        self.machine.line(text)
-        self.lines.append(text)
+    def say(self, *lines):
+        """Says the lines; one that has a byte 0a in it is two."""
+        for line in (part for line in lines for part in line.split("\n")):
+            if self.drains or not begins_draining(self.machine, line):
+                self.machine.line(line)
+                self.lines.append(line)
+
+    def free_all(self):
+        """Says what empties the bench: the deepest action commits until none runs, and what drains is quiet."""
+        while self.machine.running:
+            self.say("05%02x" % self.deepest())
+        for a in sorted(self.machine.draining):
+            self.say(*("07%02x%02x" % (a, i) for i in self.machine.instruments_of(a)))
+
+    def deepest(self):
+        return max(sorted(self.machine.running), key=lambda k: len(self.machine.ancestors[k]))
+
+    def text(self, last_end="\n"):
+        return "\n".join(self.lines) + last_end
+
+
+class Trace(Said):
+    """Seeded lines, of which most make sense to the machine."""
+
+    def __init__(self, seed, numbers, instruments, drains):
+        super().__init__(drains)
+        self.random = random.Random(seed)
+        self.numbers = numbers
+        self.instruments = instruments
 
     def number(self):
         return self.random.randrange(self.numbers)
@@ -35,12 +69,26 @@ class Trace:
         leaves = sorted(k for k in self.machine.running if not self.machine.has_running_child(k))
         return self.random.choice(leaves) if leaves else self.number()
 
-    def deepest(self):
-        running = sorted(self.machine.running, key=lambda k: len(self.machine.ancestors[k]))
-        return running[-1] if running else self.number()
+    def low(self):
+        return self.deepest() if self.machine.running else self.number()
+
+    def quiet(self):
+        """A draining owner loses one of its instruments."""
+        if self.machine.draining:
+            a = self.random.choice(sorted(self.machine.draining))
+            self.say("07%02x%02x" % (a, self.random.choice(self.machine.instruments_of(a))))
+
+    def quiet_elsewhere(self):
+        """Quiet is said of a draining owner, of one that was aborted with it or of any number, and at an instrument of that owner or at any."""
+        a, i = self.number(), self.random.randrange(self.instruments)
+        if self.machine.draining:
+            owner = self.random.choice(sorted(self.machine.draining))
+            a = self.random.choice([owner, self.random.choice(sorted(self.machine.draining[owner])), a])
+            i = self.random.choice([i, self.random.choice(self.machine.instruments_of(owner))])
+        self.say("07%02x%02x" % (a, i))
 
     def step(self, weights, parent):
-        kind = self.random.choices(range(9), weights)[0]
+        kind = self.random.choices(range(11), weights)[0]
         if kind == 0:
             self.say("01%02x" % self.number())
         elif kind == 1:
@@ -56,45 +104,59 @@ class Trace:
             self.say("05%02x" % self.runner())
         elif kind == 7:
             self.say(self.random.choice(MALFORMED))
+        elif kind == 8:
+            self.quiet()
+        elif kind == 9:
+            self.quiet_elsewhere()
         else:
-            code = self.random.randrange(1, 7)
+            code = self.random.randrange(1, 8)
             numbers = [self.random.choice([0, 63, 64, 127, 128, 255, self.random.randrange(256)]) for _ in range(2)]
             self.say("%02x%02x" % (code, numbers[0]) if code in (1, 5, 6) else "%02x%02x%02x" % (code, *numbers))
 
 
-# kind: numbers, instruments, weights of (top, sub, read, write, commit leaf, abort, commit any, malformed, any numbers), and how a parent is chosen
+# kind: numbers, instruments, weights of (top, sub, read, write, commit leaf, abort, commit any, malformed, quiet, quiet elsewhere, any numbers), and how
+# a parent is chosen
 KINDS = {
-    "mixed": (64, 128, (6, 16, 34, 30, 10, 1, 1, 1, 1), Trace.runner),
-    "shallow": (16, 20, (10, 10, 30, 30, 12, 4, 2, 1, 1), Trace.runner),
-    "deep": (64, 30, (2, 30, 20, 20, 8, 1, 1, 1, 1), Trace.deepest),
-    "siblings": (64, 12, (3, 25, 25, 25, 15, 2, 2, 1, 1), Trace.runner),
-    "conflicts": (10, 2, (10, 15, 30, 30, 10, 3, 2, 1, 1), Trace.runner),
-    "aborts": (40, 40, (5, 25, 20, 20, 20, 8, 2, 1, 1), Trace.runner),
-    "numbers_again": (5, 6, (20, 20, 20, 20, 15, 10, 5, 2, 2), Trace.runner),
-    "damaged": (20, 20, (10, 15, 20, 20, 10, 3, 2, 30, 30), Trace.runner),
+    "mixed": (64, 128, (6, 16, 34, 30, 10, 1, 1, 1, 12, 0, 1), Trace.runner),
+    "shallow": (16, 20, (10, 10, 30, 30, 12, 4, 2, 1, 12, 1, 1), Trace.runner),
+    "deep": (64, 30, (2, 30, 20, 20, 8, 1, 1, 1, 14, 1, 1), Trace.low),
+    "siblings": (64, 12, (3, 25, 25, 25, 15, 2, 2, 1, 8, 1, 1), Trace.runner),
+    "conflicts": (10, 2, (10, 15, 30, 30, 10, 3, 2, 1, 4, 1, 1), Trace.runner),
+    "aborts": (40, 40, (5, 25, 20, 20, 20, 8, 2, 1, 20, 2, 1), Trace.runner),
+    "numbers_again": (5, 6, (20, 20, 20, 20, 15, 10, 5, 2, 20, 5, 2), Trace.runner),
+    "draining": (14, 8, (6, 20, 20, 20, 4, 10, 1, 1, 14, 8, 1), Trace.runner),
+    "damaged": (20, 20, (10, 15, 20, 20, 10, 3, 2, 30, 6, 2, 30), Trace.runner),
 }
 
 
-def trace(kind, seed, lines):
+def trace(kind, seed, lines, drains=True):
     numbers, instruments, weights, parent = KINDS[kind]
-    made = Trace(seed, numbers, instruments)
+    made = Trace(seed, numbers, instruments, drains)
     while len(made.lines) < lines:
         made.step(weights, lambda: parent(made))
-    return "\n".join(made.lines) + ("\n" if seed % 2 == 0 else "")
+    return made.text("\n" if seed % 2 == 0 else "")
+
+
+def without_draining(text):
+    """A trace without its lines that begin draining."""
+    made = Said(drains=False)
+    made.say(*lines_of(text))
+    return made.text("\n" if text.endswith("\n") else "")
 
 
 # Lines that are nearly a frame: a bench on which each of these frames changes something, and lines that show what there is
-START = ["0101", "020201", "040205"]
-FRAMES = ["0103", "020302", "030206", "040207", "0502", "0602"]
-SHOWING = ["030205", "030305", "040105", "0109", "040906", "040907", "0609"]
+START = ["0101", "020201", "040205", "0104", "040408", "0604"]
+FRAMES = ["0103", "020302", "030206", "040207", "0502", "0602", "070408"]
+SHOWING = ["030205", "030305", "040105", "020404", "0109", "040906", "040907", "040908"]
 
 
-def shown(lines):
+def shown(lines, drains=True):
     """A trace of the lines: each finds the bench of START, and what it leaves is shown before all is freed again."""
-    trace = []
+    made = Said(drains)
     for line in lines:
-        trace += START + [line] + SHOWING + ["0603", "0601"]
-    return "\n".join(trace) + "\n"
+        made.say(*START, line, *SHOWING)
+        made.free_all()
+    return made.text()
 
 
 def every_byte_at_every_place():
@@ -110,7 +172,7 @@ def every_byte_at_every_place():
 def every_code():
     """Each code with none, one, two and three numbers."""
     for code in range(256):
-        for numbers in ("", "03", "0302", "0206", "020600"):
+        for numbers in ("", "03", "0302", "0206", "0408", "020600"):
             yield "%02x%s" % (code, numbers)
 
 

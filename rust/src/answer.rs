@@ -25,7 +25,7 @@ pub enum Refusal {
     NoSuchAction = 1,
     /// 2: the instrument is above 127.
     NoSuchInstrument = 2,
-    /// 3: the number to open is in use, running or committed.
+    /// 3: the number to open is in use: running, committed or draining.
     NotFree = 3,
     /// 4: the acting number, or the parent to open under, isn't running.
     NotRunning = 4,
@@ -39,12 +39,14 @@ pub enum Refusal {
     Malformed = 8,
     /// 9: the buffer is shorter than the text.
     NoRoom = 9,
+    /// 10: the number isn't an aborted action that drains, or nothing of it drains at the instrument.
+    NotDraining = 10,
     /// 255: the linked library isn't the one that this crate is for; [`check_library`](crate::check_library) says when.
     OtherLibrary = 255,
 }
 
 impl Refusal {
-    const OF_THE_TABLE: [Refusal; 9] = [
+    const OF_THE_TABLE: [Refusal; 10] = [
         Refusal::NoSuchAction,
         Refusal::NoSuchInstrument,
         Refusal::NotFree,
@@ -54,9 +56,10 @@ impl Refusal {
         Refusal::Unsound,
         Refusal::Malformed,
         Refusal::NoRoom,
+        Refusal::NotDraining,
     ];
 
-    /// The answer's number, 1 to 9, or 255.
+    /// The answer's number, 1 to 10, or 255.
     ///
     /// ```
     /// assert_eq!(dikothelm::Refusal::NotGranted.number(), 6);
@@ -67,13 +70,13 @@ impl Refusal {
     }
 }
 
-/// The refusal of the table with that number, 1 to 9.
+/// The refusal of the table with that number, 1 to 10.
 ///
 /// ```
 /// use dikothelm::Refusal;
 /// assert_eq!(Refusal::try_from(6), Ok(Refusal::NotGranted));
 /// assert!(Refusal::try_from(0).is_err());
-/// assert_eq!(Refusal::try_from(10).unwrap_err().to_string(), "no refusal has the number 10");
+/// assert_eq!(Refusal::try_from(11).unwrap_err().to_string(), "no refusal has the number 11");
 /// ```
 impl TryFrom<u8> for Refusal {
     type Error = UnknownNumber;
@@ -95,6 +98,7 @@ impl fmt::Display for Refusal {
             Refusal::Unsound => "the record isn't sound",
             Refusal::Malformed => "malformed",
             Refusal::NoRoom => "the buffer is too short",
+            Refusal::NotDraining => "it isn't an aborted action that drains there",
             Refusal::OtherLibrary => {
                 let (linked, own) = (Version(image::version()), Version(VERSION));
                 return write!(f, "the linked libdikothelm.a, version {linked}, isn't the library that this crate, version {own}, is for");
@@ -115,9 +119,9 @@ impl From<Refusal> for io::Error {
 /// A number that no answer, no refusal or no state has.
 ///
 /// ```
-/// let unknown = dikothelm::Answer::try_from(10).unwrap_err();
-/// assert_eq!(unknown.number(), 10);
-/// assert_eq!(unknown.to_string(), "no answer has the number 10");
+/// let unknown = dikothelm::Answer::try_from(11).unwrap_err();
+/// assert_eq!(unknown.number(), 11);
+/// assert_eq!(unknown.to_string(), "no answer has the number 11");
 /// ```
 #[derive(Clone, Copy, Debug, PartialEq, Eq, Hash)]
 pub struct UnknownNumber {
@@ -129,7 +133,7 @@ impl UnknownNumber {
     /// The number.
     ///
     /// ```
-    /// assert_eq!(dikothelm::State::try_from(3).map_err(|unknown| unknown.number()), Err(3));
+    /// assert_eq!(dikothelm::State::try_from(4).map_err(|unknown| unknown.number()), Err(4));
     /// ```
     #[must_use]
     pub const fn number(self) -> u8 {
@@ -166,7 +170,7 @@ pub enum Answer {
 }
 
 impl Answer {
-    /// The answer's number, 0 to 9, or 255.
+    /// The answer's number, 0 to 10, or 255.
     ///
     /// ```
     /// use dikothelm::{Answer, Refusal};
@@ -182,13 +186,13 @@ impl Answer {
     }
 }
 
-/// The answer of the table with that number, 0 to 9.
+/// The answer of the table with that number, 0 to 10.
 ///
 /// ```
 /// use dikothelm::{Answer, Refusal};
 /// assert_eq!(Answer::try_from(0), Ok(Answer::Accepted));
 /// assert_eq!(Answer::try_from(6), Ok(Answer::Refused(Refusal::NotGranted)));
-/// assert!(Answer::try_from(10).is_err());
+/// assert!(Answer::try_from(11).is_err());
 /// ```
 impl TryFrom<u8> for Answer {
     type Error = UnknownNumber;

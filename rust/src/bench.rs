@@ -17,6 +17,9 @@ const SETS: usize = INSTRUMENTS as usize;
 /// bench.open_sub(2, 1)?;
 /// bench.commit(2)?;
 /// assert_eq!([0, 1, 2].map(|n| bench.state(n)), [Some(State::Free), Some(State::Running), Some(State::Committed)]);
+/// bench.write(1, 5)?;
+/// bench.abort(1)?;
+/// assert_eq!([0, 1, 2].map(|n| bench.state(n)), [Some(State::Free), Some(State::Draining), Some(State::Draining)]);
 /// # Ok::<(), dikothelm::Refusal>(())
 /// ```
 #[derive(Clone, Copy, Debug, PartialEq, Eq, Hash)]
@@ -29,10 +32,13 @@ pub enum State {
     Running = 1,
     /// 2: a subaction that has committed. Its number stays in use until its family ends, and its locks count as its parent's.
     Committed = 2,
+    /// 3: aborted, by itself or with an ancestor, while some of the aborted owned something. Its number stays in use until all instruments are
+    /// [`quiet`](Bench::quiet), and its locks count as those of the aborted action, its [`head`](Bench::head).
+    Draining = 3,
 }
 
 impl State {
-    /// The state's number in a record.
+    /// The state's number. In a record a draining number has 3 + its head.
     ///
     /// ```
     /// assert_eq!(dikothelm::State::Committed.number(), 2);
@@ -43,12 +49,12 @@ impl State {
     }
 }
 
-/// The state with that number in a record.
+/// The state with that number.
 ///
 /// ```
 /// use dikothelm::State;
 /// assert_eq!(State::try_from(2), Ok(State::Committed));
-/// assert_eq!(State::try_from(3).unwrap_err().to_string(), "no state has the number 3");
+/// assert_eq!(State::try_from(4).unwrap_err().to_string(), "no state has the number 4");
 /// ```
 impl TryFrom<u8> for State {
     type Error = UnknownNumber;
@@ -58,6 +64,7 @@ impl TryFrom<u8> for State {
             0 => Ok(State::Free),
             1 => Ok(State::Running),
             2 => Ok(State::Committed),
+            3 => Ok(State::Draining),
             _ => Err(UnknownNumber { what: "state", number }),
         }
     }
@@ -79,6 +86,11 @@ impl TryFrom<u8> for State {
 /// assert_eq!(
 ///     format!("{bench:?}"),
 ///     "Bench { actions: {1: running, 2: committed under 1}, instruments: {5: written by 1 (from 2)} }"
+/// );
+/// bench.abort(1)?;
+/// assert_eq!(
+///     format!("{bench:?}"),
+///     "Bench { actions: {1: draining, 2: draining under 1}, instruments: {5: written by 1 (from 2)} }"
 /// );
 /// # Ok::<(), Refusal>(())
 /// ```
@@ -115,7 +127,7 @@ impl Bench {
         Bench { actions, owners }
     }
 
-    /// The first array: parents of the 64 numbers (0: none, else the number + 1), then their states.
+    /// The first array: parents of the 64 numbers (0: none, else the number + 1), then their states, for a draining number 3 + its head.
     ///
     /// ```
     /// let mut bench = dikothelm::Bench::new();
@@ -255,7 +267,8 @@ impl Bench {
         self.ask(|actions, owners| image::commit(actions, owners, a))
     }
 
-    /// Aborts a: it and all its descendants, running or committed, become free and their locks go.
+    /// Aborts a and all its descendants, running or committed. If one of them stands in a set they all drain: they leave the tree and stay in use, and a owns
+    /// what they had, in everybody's way, until each instrument is [`quiet`](Bench::quiet). Else they become free.
     ///
     /// # Errors
     /// [`Unsound`](Refusal::Unsound); [`NoSuchAction`](Refusal::NoSuchAction); [`NotRunning`](Refusal::NotRunning).
@@ -268,10 +281,36 @@ impl Bench {
     /// bench.open_sub(2, 1)?;
     /// bench.abort(1)?;
     /// assert_eq!(bench.abort(2), Err(Refusal::NotRunning));
+    /// assert_eq!(bench, Bench::new());
     /// # Ok::<(), Refusal>(())
     /// ```
     pub fn abort(&mut self, a: u32) -> Result<(), Refusal> {
         self.ask(|actions, owners| image::abort(actions, owners, a))
+    }
+
+    /// Instrument i is quiet for the aborted action a: all numbers that drain under a leave its sets, and become free when none of them is left in any set.
+    ///
+    /// # Errors
+    /// [`Unsound`](Refusal::Unsound); [`NoSuchAction`](Refusal::NoSuchAction); [`NoSuchInstrument`](Refusal::NoSuchInstrument);
+    /// [`NotDraining`](Refusal::NotDraining): a doesn't drain under itself, or none that drains under it is in the sets of i.
+    ///
+    /// ```
+    /// use dikothelm::{Bench, Refusal};
+    ///
+    /// let mut bench = Bench::new();
+    /// bench.open_top(1)?;
+    /// bench.open_sub(2, 1)?;
+    /// bench.write(2, 5)?;
+    /// bench.abort(1)?;
+    /// bench.open_top(9)?;
+    /// assert_eq!(bench.read(9, 5), Err(Refusal::NotGranted));
+    /// assert_eq!(bench.quiet(2, 5), Err(Refusal::NotDraining)); // it drains under 1
+    /// assert_eq!(bench.quiet(1, 5), Ok(()));
+    /// assert_eq!(bench.read(9, 5), Ok(()));
+    /// # Ok::<(), Refusal>(())
+    /// ```
+    pub fn quiet(&mut self, a: u32, i: u32) -> Result<(), Refusal> {
+        self.ask(|actions, owners| image::quiet(actions, owners, a, i))
     }
 
     /// How many bytes the bench's text has, at most [`LONGEST_TEXT`].
@@ -366,11 +405,33 @@ impl Bench {
         if n >= ACTIONS {
             return None;
         }
+        if self.head(n).is_some() {
+            return Some(State::Draining);
+        }
         State::try_from(self.actions[NUMBERS + n as usize]).ok()
     }
 
-    /// The parent that the record has for number n, if any: on a sound bench a top action and a free number have none. An unsound record may have one for a
-    /// free number too, and any up to 254. `None` for a number above 63.
+    /// The aborted action that number n drains under, if n drains.
+    ///
+    /// ```
+    /// let mut bench = dikothelm::Bench::new();
+    /// bench.open_top(1)?;
+    /// bench.open_sub(2, 1)?;
+    /// bench.write(2, 5)?;
+    /// bench.abort(1)?;
+    /// assert_eq!([0, 1, 2, 64].map(|n| bench.head(n)), [None, Some(1), Some(1), None]);
+    /// # Ok::<(), dikothelm::Refusal>(())
+    /// ```
+    #[must_use]
+    pub fn head(&self, n: u32) -> Option<u32> {
+        if n >= ACTIONS {
+            return None;
+        }
+        u32::from(self.actions[NUMBERS + n as usize]).checked_sub(u32::from(State::Draining.number())).filter(|&head| head < ACTIONS)
+    }
+
+    /// The parent that the record has for number n, if any: on a sound bench a top action, a free and a draining number have none. An unsound record may have
+    /// one for those too, and any up to 254. `None` for a number above 63.
     ///
     /// ```
     /// let mut bench = dikothelm::Bench::new();
@@ -387,7 +448,7 @@ impl Bench {
         u32::from(self.actions[n as usize]).checked_sub(1)
     }
 
-    /// The running action that n's locks count for: the nearest running one among n and its ancestors.
+    /// The action that n's locks count for: the nearest running one among n and its ancestors, or the aborted one that n drains under.
     ///
     /// ```
     /// let mut bench = dikothelm::Bench::new();
@@ -401,6 +462,9 @@ impl Bench {
     /// ```
     #[must_use]
     pub fn heir(&self, n: u32) -> Option<u32> {
+        if let Some(head) = self.head(n) {
+            return Some(head);
+        }
         let mut k = n;
         for _ in 0..ACTIONS {
             if self.state(k) == Some(State::Running) {
@@ -411,7 +475,7 @@ impl Bench {
         None
     }
 
-    /// The numbers in the read set of instrument i, committed ones too; none for an instrument above 127.
+    /// The numbers in the read set of instrument i, committed and draining ones too; none for an instrument above 127.
     ///
     /// ```
     /// let mut bench = dikothelm::Bench::new();
@@ -426,7 +490,7 @@ impl Bench {
         self.set(i, 0)
     }
 
-    /// The numbers in the write set of instrument i, committed ones too; none for an instrument above 127.
+    /// The numbers in the write set of instrument i, committed and draining ones too; none for an instrument above 127.
     ///
     /// ```
     /// let mut bench = dikothelm::Bench::new();
@@ -441,7 +505,7 @@ impl Bench {
         self.set(i, SETS)
     }
 
-    /// The running actions that own instrument i for reading by Moss's rules: the heirs of its readers.
+    /// The actions, running or draining, that own instrument i for reading by Moss's rules: the heirs of its readers.
     ///
     /// ```
     /// let mut bench = dikothelm::Bench::new();
@@ -457,7 +521,7 @@ impl Bench {
         self.heirs(self.readers(i))
     }
 
-    /// The running actions that own instrument i for writing by Moss's rules: the heirs of its writers.
+    /// The actions, running or draining, that own instrument i for writing by Moss's rules: the heirs of its writers.
     ///
     /// ```
     /// let mut bench = dikothelm::Bench::new();
@@ -546,11 +610,16 @@ impl fmt::Debug for InWords {
 
 impl Bench {
     fn action_in_words(&self, n: u32) -> String {
+        if let Some(head) = self.head(n) {
+            let under = if head == n { String::new() } else { format!(" under {head}") };
+            let unsound = self.parent(n).map_or(String::new(), |p| format!(", a child of {p}"));
+            return format!("draining{under}{unsound}");
+        }
         let state = match self.state(n) {
             Some(State::Free) => "free",
             Some(State::Running) => "running",
             Some(State::Committed) => "committed",
-            None => "meaningless",
+            _ => "meaningless",
         };
         match self.parent(n) {
             Some(p) => format!("{state} under {p}"),

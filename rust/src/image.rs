@@ -1,6 +1,7 @@
 //! The proved library itself, over slices: a record as two arrays, of any length and with any content.
 //!
-//! `actions` has 128 bytes: the parents of numbers 0 to 63 (0: none, else the parent's number + 1), then their states (0 free, 1 running, 2 committed).
+//! `actions` has 128 bytes: the parents of numbers 0 to 63 (0: none, else the parent's number + 1), then their states (0 free, 1 running, 2 committed, 3 + h
+//! draining under the aborted action h, without a parent).
 //! `owners` has 256 words: the read sets of instruments 0 to 127, then their write sets (bit k: number k). A record of other lengths gets 7.
 //!
 //! Every answer is its number; [`Answer::try_from`](crate::Answer) gives it a name. Whatever the answer but 0, nothing changes, except that a refused
@@ -29,6 +30,7 @@ extern "C" {
     fn dikothelm_image_write(actions: *mut u8, actions_length: usize, owners: *mut u64, owners_length: usize, a: u32, i: u32) -> u8;
     fn dikothelm_image_commit(actions: *mut u8, actions_length: usize, owners: *mut u64, owners_length: usize, a: u32) -> u8;
     fn dikothelm_image_abort(actions: *mut u8, actions_length: usize, owners: *mut u64, owners_length: usize, a: u32) -> u8;
+    fn dikothelm_image_quiet(actions: *mut u8, actions_length: usize, owners: *mut u64, owners_length: usize, a: u32, i: u32) -> u8;
     fn dikothelm_image_text_size(actions: *const u8, actions_length: usize, owners: *const u64, owners_length: usize, count: *mut usize) -> u8;
     fn dikothelm_image_save(
         actions: *const u8,
@@ -74,7 +76,7 @@ extern "C" {
 /// The version of the linked library: major × 65536 + minor × 256 + patch.
 ///
 /// ```
-/// assert_eq!(dikothelm::image::version() / 256, 2); // 0.2
+/// assert_eq!(dikothelm::image::version() / 256, 3); // 0.3
 /// ```
 #[must_use]
 pub fn version() -> u32 {
@@ -183,6 +185,25 @@ pub fn commit(actions: &mut [u8], owners: &mut [u64], a: u32) -> u8 {
 pub fn abort(actions: &mut [u8], owners: &mut [u64], a: u32) -> u8 {
     // SAFETY: as for `empty`.
     unsafe { dikothelm_image_abort(actions.as_mut_ptr(), actions.len(), owners.as_mut_ptr(), owners.len(), a) }
+}
+
+/// Instrument i is quiet for the aborted action a: 0, 1, 2, 7 or 10.
+///
+/// ```
+/// use dikothelm::image;
+/// let (mut actions, mut owners) = ([0; 128], [0; 256]);
+/// assert_eq!(image::open_top(&mut actions, &mut owners, 3), 0);
+/// assert_eq!(image::write(&mut actions, &mut owners, 3, 5), 0);
+/// assert_eq!(image::quiet(&mut actions, &mut owners, 3, 5), 10);
+/// assert_eq!(image::abort(&mut actions, &mut owners, 3), 0);
+/// assert_eq!(actions[64 + 3], 3 + 3); // it drains under itself
+/// assert_eq!(image::quiet(&mut actions, &mut owners, 3, 5), 0);
+/// assert_eq!((actions, owners), ([0; 128], [0; 256]));
+/// ```
+#[must_use]
+pub fn quiet(actions: &mut [u8], owners: &mut [u64], a: u32, i: u32) -> u8 {
+    // SAFETY: as for `empty`.
+    unsafe { dikothelm_image_quiet(actions.as_mut_ptr(), actions.len(), owners.as_mut_ptr(), owners.len(), a, i) }
 }
 
 /// How many bytes the record's text has: the answer, 0 or 7, and the count, 0 where refused.

@@ -1,7 +1,8 @@
 //! A lock table for a test bench of 128 instruments and 64 action numbers, written in Rattle and proved.
 //!
 //! Actions nest, siblings run side by side, and instruments are locked by Moss's rules: an action may read what only itself and its ancestors write, and
-//! may write what only itself and its ancestors read or write. A committed subaction's locks count as its parent's.
+//! may write what only itself and its ancestors read or write. A committed subaction's locks count as its parent's. An aborted action that owns something
+//! drains: its locks stay, in everybody's way, until each of its instruments is said to be quiet.
 //!
 //! ```
 //! use dikothelm::{Bench, Refusal};
@@ -14,10 +15,14 @@
 //! assert_eq!(bench.read(3, 5), Err(Refusal::NotGranted)); // 2 is a sibling of 3
 //! bench.commit(2)?; // 1 inherits
 //! bench.read(3, 5)?; // now an ancestor of 3 owns it
+//! bench.abort(3)?; // 3 drains until instrument 5 is quiet
+//! assert_eq!(bench.write(1, 5), Err(Refusal::NotGranted));
+//! bench.quiet(3, 5)?;
+//! bench.write(1, 5)?;
 //! # Ok::<(), Refusal>(())
 //! ```
 //!
-//! The six requests, saving, loading and playing are the proved library's; what this crate adds around them is plain Rust, tested and not proved. Nothing
+//! The seven requests, saving, loading and playing are the proved library's; what this crate adds around them is plain Rust, tested and not proved. Nothing
 //! panics, whatever numbers are asked, whatever a record holds, and whatever library is linked.
 
 #![deny(missing_docs)]

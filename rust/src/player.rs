@@ -7,8 +7,8 @@ const AT_ONCE: usize = 4096;
 
 /// Plays a trace: lines of hexadecimal in, for each line its answer out, two digits and a newline.
 ///
-/// `01nn` open top, `02nnpp` open sub, `03aaii` read, `04aaii` write, `05aa` commit, `06aa` abort. Any other line gets `08` and changes nothing. The input may
-/// be cut anywhere and lines may be of any length.
+/// `01nn` open top, `02nnpp` open sub, `03aaii` read, `04aaii` write, `05aa` commit, `06aa` abort, `07aaii` quiet. Any other line gets `08` and changes
+/// nothing. The input may be cut anywhere and lines may be of any length.
 ///
 /// A refused line is answered like any other. The only error of playing itself is [`Refusal::OtherLibrary`], where [`check_library`] gives it.
 ///

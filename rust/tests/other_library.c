@@ -26,6 +26,7 @@ uint8_t dikothelm_image_read(RECORD, uint32_t a, uint32_t i) { return UNUSED, (v
 uint8_t dikothelm_image_write(RECORD, uint32_t a, uint32_t i) { return UNUSED, (void)a, (void)i, nonsense(); }
 uint8_t dikothelm_image_commit(RECORD, uint32_t a) { return UNUSED, (void)a, nonsense(); }
 uint8_t dikothelm_image_abort(RECORD, uint32_t a) { return UNUSED, (void)a, nonsense(); }
+uint8_t dikothelm_image_quiet(RECORD, uint32_t a, uint32_t i) { return UNUSED, (void)a, (void)i, nonsense(); }
 uint8_t dikothelm_image_load(RECORD, const uint8_t *text, size_t length) { return UNUSED, (void)text, (void)length, nonsense(); }
 
 /* 0 with a size that no text has. */

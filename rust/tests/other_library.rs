@@ -7,7 +7,7 @@ use dikothelm::{check_library, Answer, Bench, Player, Refusal};
 fn assert_refused_by_all() {
     let mut bench = Bench::new();
     let other = Err(Refusal::OtherLibrary);
-    for result in [bench.open_top(1), bench.open_sub(2, 1), bench.read(1, 5), bench.write(1, 5), bench.commit(1), bench.abort(1)] {
+    for result in [bench.open_top(1), bench.open_sub(2, 1), bench.read(1, 5), bench.write(1, 5), bench.commit(1), bench.abort(1), bench.quiet(1, 5)] {
         assert_eq!(result, other);
         assert_eq!(Answer::from(result).number(), 255);
     }
@@ -29,18 +29,18 @@ fn assert_refused_by_all() {
 }
 
 #[test]
-#[ignore = "needs other_library.c with OTHER_VERSION=0x000300"]
+#[ignore = "needs other_library.c with OTHER_VERSION=0x000400"]
 fn of_another_version() {
     assert_eq!(check_library(), Err(Refusal::OtherLibrary));
     assert_eq!(
         Refusal::OtherLibrary.to_string(),
-        "the linked libdikothelm.a, version 0.3.0, isn't the library that this crate, version 0.2.0, is for"
+        "the linked libdikothelm.a, version 0.4.0, isn't the library that this crate, version 0.3.0, is for"
     );
     assert_refused_by_all();
 }
 
 #[test]
-#[ignore = "needs other_library.c with OTHER_VERSION=0x000207"]
+#[ignore = "needs other_library.c with OTHER_VERSION=0x000307"]
 fn of_this_version_and_not_the_proved_one() {
     assert_eq!(check_library(), Ok(())); // another patch is no other version
     assert_refused_by_all();

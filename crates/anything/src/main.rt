@@ -1,6 +1,7 @@
 // No bench record and no number in a request goes without its answer: 22,000 drawn requests of drawn records. Each line is for 1,000 of them: the
-// kind of records, how often the answers 0 to 7 were given, and a sum over every answer and every record handed back so far.
+// kind of records, how often the answers 0 to 7 and 10 were given, and a sum over every answer and every record handed back so far.
 mod draw;
+mod forests;
 mod records;
 mod requests;
 
@@ -14,7 +15,7 @@ use trials::sums::folded_record;
 struct Run {
     bench: Bench,
     x: u64,
-    counts: [u64; 8],
+    counts: [u64; 9],
     sum: u64,
 }
 
@@ -24,11 +25,14 @@ fn folded_reply(start: u64, answer: u8, b: Bench) -> u64 {
     folded_record(sum, false, b)
 }
 
-// One more of this answer.
-fn counted(mut counts: [u64; 8], answer: u8) -> [u64; 8] {
+// One more of this answer: 0 to 7 are counted in their places, and 10 behind them.
+fn counted(mut counts: [u64; 9], answer: u8) -> [u64; 9] {
     if answer < 8 {
         let at = answer as usize;
         counts[at % 8] = std::num::wrapping_add_u64(counts[at % 8], 1);
+    }
+    if answer == 10 {
+        counts[8] = std::num::wrapping_add_u64(counts[8], 1);
     }
     counts
 }
@@ -67,9 +71,9 @@ fn step(run: Run, kind: u64, turn: u64) -> Run {
 }
 
 // Writes the line of 1,000 requests.
-fn line(kind: u64, counts: [u64; 8], sum: u64) {
+fn line(kind: u64, counts: [u64; 9], sum: u64) {
     io::print_decimal(1, kind);
-    for k in 0..8usize {
+    for k in 0..9usize {
         show::count(counts[k]);
     }
     show::last_sum(sum);
@@ -80,7 +84,7 @@ fn block(kind: u64, x: u64, sum: u64) -> Run {
     let mut run = Run {
         bench: Bench::empty(),
         x: x,
-        counts: [0u64; 8],
+        counts: [0u64; 9],
         sum: sum,
     };
     for turn in 0..1000u64 {

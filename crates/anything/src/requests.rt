@@ -11,7 +11,7 @@ pub(crate) struct Request {
     pub(crate) x: u64,
 }
 
-// Which request a drawn number stands for: in sixteen, 1 open top, 4 open sub, 4 read, 4 write, 2 commit and 1 abort.
+// Which request a drawn number stands for: in sixteen, 1 open top, 4 open sub, 3 read, 3 write, 1 commit, 1 abort and 3 quiet.
 fn code_of(choice: u64) -> u64 {
     let c = choice % 16;
     if c < 1 {
@@ -20,16 +20,19 @@ fn code_of(choice: u64) -> u64 {
     if c < 5 {
         return 2;
     }
-    if c < 9 {
+    if c < 8 {
         return 3;
     }
-    if c < 13 {
+    if c < 11 {
         return 4;
     }
-    if c < 15 {
+    if c < 12 {
         return 5;
     }
-    6
+    if c < 13 {
+        return 6;
+    }
+    7
 }
 
 // Below which number most requests stay, for each kind of record.
@@ -60,9 +63,9 @@ fn instruments_of(kind: u64) -> u64 {
     10
 }
 
-// Below which number the second one of a request stays: an instrument for read and write.
+// Below which number the second one of a request stays: an instrument for read, write and quiet.
 fn second_of(kind: u64, code: u64) -> u64 {
-    if code == 3 || code == 4 {
+    if code == 3 || code == 4 || code == 7 {
         return instruments_of(kind);
     }
     numbers_of(kind)
@@ -79,14 +82,22 @@ fn near_or_far(x: u64, below: u64, chance: u64) -> u32 {
     (x % below % 4294967296) as u32
 }
 
-// A number to act: in three cases of four where n names one, the first running number from n on, going round.
-fn aimed(states: &[u8; 64], n: u32, chance: u64) -> u32 {
+// Whether number n, with this state's byte, can be the one of a request: it runs, or for quiet it drains under itself.
+fn fits(code: u64, n: u32, state: u8) -> bool {
+    if code == 7 {
+        return state == (n % 64) as u8 + 3;
+    }
+    state == 1
+}
+
+// A number for a request: in three cases of four where n names one, the first that fits from n on, going round.
+fn aimed(states: &[u8; 64], code: u64, n: u32, chance: u64) -> u32 {
     if n >= 64 || chance % 4 == 0 {
         return n;
     }
     for step in 0..64u32 {
         let at = (n % 64 + step) % 64;
-        if states[at as usize] == 1 {
+        if fits(code, at, states[at as usize]) {
             return at;
         }
     }
@@ -103,9 +114,9 @@ pub(crate) fn drawn(b: Bench, kind: u64, x: u64) -> Request {
     let mut first = near_or_far(drawn_first, numbers_of(kind), chance);
     let mut second = near_or_far(drawn_second, second_of(kind, code), chance / 64);
     if code == 2 {
-        second = aimed(&b.states, second, chance / 4096);
+        second = aimed(&b.states, code, second, chance / 4096);
     } else if code != 1 {
-        first = aimed(&b.states, first, chance / 4096);
+        first = aimed(&b.states, code, first, chance / 4096);
     }
     Request {
         code: code,

@@ -6,15 +6,17 @@ use mathlib.Core.Option.{Option}
 use Prim.Native.Nat.{ℕ, zero, suc, _^_, _<_}
 use native.Mathlib.Omega.{arith}
 use borrow.Author.Tests.{ne-eqb}
+use lib.Dec.{ltb}
 use lib.ListN.{length, getD, replicate, length-replicate, getD-replicate}
 use lib.Seq.{ext-getD}
 use Rattle.sets.specs.Sets.{member}
 use Rattle.sets.proofs.Laws.{same-members}
 use Rattle.rules.specs.Tests.{from}
-use Rattle.rules.specs.Bench.{State, free, running, committed, meaningless}
+use Rattle.rules.specs.Bench.{State, free, running, committed, draining, meaningless}
 use Rattle.rules.specs.Requests.{Request}
 use Rattle.rules.specs.Answers.{Outcome, answerOf, step}
 use Rattle.rules.specs.ReadWrite.{readWrite}
+use Rattle.rules.proofs.Tests.{by-bool}
 use Rattle.views.specs.View.{stateOf, parentOf}
 use Rattle.bench.specs.declared.Bench.{Bench}
 use Rattle.bench.specs.declared.Reply.{Reply}
@@ -44,25 +46,26 @@ zeros-fit =
 
 -- ---- a byte is told by what it means
 
--- the byte that means a state
+-- The byte that means a state. A number of the table drains, any other means nothing, so that the two never share a byte.
 unfoldable pub byteOf : State → ℕ
 byteOf free = 0
 byteOf running = 1
 byteOf committed = 2
+byteOf (draining h) = suc (suc (suc h))
 byteOf (meaningless n) = suc (suc (suc n))
 
-state-byte : (s : ℕ) → byteOf (stateOf s) ≡ s
+pub state-byte : (s : ℕ) → byteOf (stateOf 64 s) ≡ s
 unfolding byteOf
 state-byte zero = refl
 state-byte (suc zero) = refl
 state-byte (suc (suc zero)) = refl
-state-byte (suc (suc (suc n))) = refl
+state-byte (suc (suc (suc h))) = by-bool (ltb h 64) (λ t. rw t) (λ t. rw t)
 
 parent-byte : (p : ℕ) → from (parentOf p) 0 suc ≡ p
 parent-byte zero = refl
 parent-byte (suc p) = refl
 
-pub state-injective : (s t : ℕ) → stateOf s ≡ stateOf t → s ≡ t
+pub state-injective : (s t : ℕ) → stateOf 64 s ≡ stateOf 64 t → s ≡ t
 state-injective s t e = sym (state-byte s) ∙ ap byteOf e ∙ state-byte t
 
 pub parent-injective : (p q : ℕ) → parentOf p ≡ parentOf q → p ≡ q

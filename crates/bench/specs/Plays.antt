@@ -14,7 +14,7 @@ use Rattle.bench.specs.Record.{viewed, seen}
 abbrev pub IsEmpty : Bench → Type 0
 IsEmpty r = viewed r ≡ empty
 
--- r is what the method of request q returns on record b: each of the six ensures it in these words.
+-- r is what the method of request q returns on record b: each of the seven ensures it in these words.
 abbrev pub Returns : Bench → Request → Reply → Type 0
 Returns b q r = seen r ≡ step readWrite (viewed b) q
 

@@ -1,19 +1,22 @@
-// The answers: 7 where the record isn't sound, and else the first row of document 01's table that applies.
+// The answers: 7 where the record isn't sound, and else the first row of document 01's table, or of document 02's for quiet, that applies.
 use crate::Bench;
+use crate::standing::standing;
 use marks::answers::UNSOUND;
+use steps::draining::quiet_row;
 use steps::rows::abort_row;
 use steps::rows::commit_row;
 use steps::rows::looked_up_ask_row;
 use steps::rows::open_sub_row;
 use steps::rows::open_top_row;
-use steps::words::conflicting;
 use tree::children::running_child;
+use tree::owners::conflicting;
 ghost use mathlib.Core.Path.{_≡_};
 ghost use Rattle.rules.specs.Sound.{sound};
-ghost use Rattle.rules.specs.Requests.{openTop, openSub, ask, commit, abort};
+ghost use Rattle.rules.specs.Requests.{openTop, openSub, ask, commit, abort, quiet};
 ghost use Rattle.rules.specs.Answers.{answerOf};
 ghost use Rattle.rules.specs.ReadWrite.{readWrite, modeOf};
 ghost use Rattle.views.specs.View.{view};
+ghost use Rattle.steps.specs.Changes.{groupIn};
 
 // Whether the record of these arrays is sound.
 pub fn sound<'a>(
@@ -24,7 +27,7 @@ pub fn sound<'a>(
 ) -> bool
     ensures { λ r. ⌜ r ≡ sound readWrite (view (now (parents .entry)) (now (states .entry)) (now (reads .entry)) (now (writes .entry))) ⌝ }
 {
-    let numbers = sets::union(soundness::standing(reads), soundness::standing(writes));
+    let numbers = standing(reads, writes);
     soundness::sound(parents, states, numbers)
 }
 
@@ -123,4 +126,28 @@ pub(crate) fn abort_answer<'a>(
         return UNSOUND;
     }
     abort_row(states, a)
+}
+
+// Quiet, where `group` are the numbers that drain under a.
+pub(crate) fn quiet_answer<'a>(
+    parents: &'a [u8; 64],
+    states: &'a [u8; 64],
+    reads: &'a [u64; 128],
+    writes: &'a [u64; 128],
+    group: u64,
+    a: u32,
+    i: u32,
+) -> u8
+    requires { ⌜ group ≡ groupIn (now states) a ⌝ }
+    ensures { λ r. ⌜
+        r ≡ answerOf readWrite (view (now (parents .entry)) (now (states .entry)) (now (reads .entry)) (now (writes .entry)))
+        (quiet a i)
+        ⌝ }
+{
+    if !sound(parents, states, reads, writes) {
+        return UNSOUND;
+    }
+    let at = (i % Bench::INSTRUMENTS) as usize;
+    let here = sets::union(reads[at], writes[at]);
+    quiet_row(states, sets::meet(here, group), a, i)
 }

@@ -1,26 +1,22 @@
-// The bench: 64 action numbers, 128 instruments, six requests by Moss's rules.
+// The bench: 64 action numbers, 128 instruments, seven requests by Moss's rules. The record, the opens, reads and writes; commit, abort and quiet are in `ends`.
 pub mod answers;
+mod ends;
+mod standing;
 
-use answers::abort_answer;
 use answers::ask_answer;
-use answers::commit_answer;
 use answers::open_sub_answer;
 use answers::open_top_answer;
 use marks::answers::ACCEPTED;
-use marks::states::COMMITTED;
 use marks::states::RUNNING;
 ghost use mathlib.Core.Path.{_≡_};
-ghost use mathlib.Core.Bool.{true};
-ghost use Prim.Native.Nat.{_<_};
-ghost use Rattle.rules.specs.Owners.{inFamily};
 ghost use Rattle.rules.specs.Sound.{sound};
-ghost use Rattle.rules.specs.Requests.{openTop, openSub, commit, abort, without};
+ghost use Rattle.rules.specs.Requests.{openTop, openSub};
 ghost use Rattle.rules.specs.ReadWrite.{readWrite, read, write};
 ghost use Rattle.bench.specs.Record.{viewed};
 ghost use Rattle.bench.specs.Plays.{IsEmpty, Returns};
 
 // Parents and states over 64 numbers, read and write sets over 128 instruments. A parent's byte is 0 for none and else one more than the parent's
-// number; a state's byte is 0 free, 1 running, 2 committed; a set's bit k is number k.
+// number; a state's byte is 0 free, 1 running, 2 committed, 3 + h draining under number h, with which it was aborted; a set's bit k is number k.
 pub struct Bench {
     pub parents: [u8; 64],
     pub states: [u8; 64],
@@ -52,7 +48,8 @@ impl Bench {
         }
     }
 
-    // Whether the record is sound: rules 1 to 4.
+    // Whether the record is sound: rules 1 to 4, and of numbers that drain that they have left the tree, that their head drains under itself, and that the group stands in
+    // some set.
     pub fn is_sound(self) -> bool
         ensures { λ r. ⌜ r ≡ sound readWrite (viewed self) ⌝ }
     {
@@ -129,63 +126,6 @@ impl Bench {
         if answer == ACCEPTED {
             let at = (i % Bench::INSTRUMENTS) as usize;
             self.writes[at] = sets::with(self.writes[at], (a % Bench::ACTIONS) as usize);
-        }
-        Reply {
-            bench: self,
-            answer: answer,
-        }
-    }
-
-    // a and all its descendants become free and leave all sets.
-    fn without_family(mut self, a: usize) -> Bench
-        requires { ⌜ (sound readWrite (viewed self) ≡ true) × (a < 64) ⌝ }
-        ensures { λ r. ⌜ viewed r ≡ without (inFamily readWrite (viewed self) a) (viewed self) ⌝ }
-    {
-        let gone = tree::family::family_of(&self.parents, a);
-        steps::clear::clear_bytes(&mut self.parents, gone);
-        steps::clear::clear_bytes(&mut self.states, gone);
-        steps::clear::clear_sets(&mut self.reads, gone);
-        steps::clear::clear_sets(&mut self.writes, gone);
-        self
-    }
-
-    // A sub becomes committed and no owner set changes; a top and all its descendants become free and leave all sets.
-    pub fn commit(mut self, a: u32) -> Reply
-        ensures { λ r. ⌜ Returns self (commit a) r ⌝ }
-    {
-        let answer = commit_answer(&self.parents, &self.states, &self.reads, &self.writes, a);
-        if answer != ACCEPTED {
-            return Reply {
-                bench: self,
-                answer: answer,
-            };
-        }
-        let at = (a % Bench::ACTIONS) as usize;
-        if self.parents[at] == 0 {
-            let next = self.without_family(at);
-            return Reply {
-                bench: next,
-                answer: answer,
-            };
-        }
-        self.states[at] = COMMITTED;
-        Reply {
-            bench: self,
-            answer: answer,
-        }
-    }
-
-    // a and all its descendants, running or committed, become free and leave all sets.
-    pub fn abort(mut self, a: u32) -> Reply
-        ensures { λ r. ⌜ Returns self (abort a) r ⌝ }
-    {
-        let answer = abort_answer(&self.parents, &self.states, &self.reads, &self.writes, a);
-        if answer == ACCEPTED {
-            let freed = tree::family::family_of(&self.parents, (a % Bench::ACTIONS) as usize);
-            steps::clear::clear_bytes(&mut self.parents, freed);
-            steps::clear::clear_bytes(&mut self.states, freed);
-            steps::clear::clear_sets(&mut self.reads, freed);
-            steps::clear::clear_sets(&mut self.writes, freed);
         }
         Reply {
             bench: self,

@@ -1,5 +1,5 @@
 // What a request costs through the public methods, its soundness test included: a thousand requests of one kind, for an instruction count. The first
-// argument's first digit says the kind; with a minus sign after it no request is made. benchmarks/cost runs both under callgrind and tells the difference.
+// argument's first character says the kind; with a minus sign after it no request is made. benchmarks/cost runs both under callgrind and tells the difference.
 use bench::Bench;
 ghost use Prim.Native.Nat.{_≤_};
 
@@ -24,10 +24,34 @@ fn deep() -> Bench {
     b
 }
 
+// The busy bench with its owners aborted: each of 12 to 23 drains at the two or three instruments that are it less 12, and so on in twelves.
+fn draining() -> Bench {
+    let mut b = busy();
+    for k in 12..24u32 {
+        b = b.abort(k).bench;
+    }
+    b
+}
+
+// The same with only the first instrument of each left.
+fn nearly_quiet() -> Bench {
+    let mut b = draining();
+    for i in 12..30u32 {
+        b = b.quiet(12 + i % 12, i).bench;
+    }
+    b
+}
+
 // The bench that a kind of request is asked of.
 fn asked(kind: u8) -> Bench {
     if kind == b'9' {
         return deep();
+    }
+    if kind == b'a' {
+        return draining();
+    }
+    if kind == b'b' {
+        return nearly_quiet();
     }
     busy()
 }
@@ -69,6 +93,10 @@ fn one(b: Bench, kind: u8, n: u32) -> u32 {
         }
         b'8' => {
             let r = b.abort(n % 2);
+            seen(r.answer, r.bench)
+        }
+        b'a' | b'b' => {
+            let r = b.quiet(12 + n % 12, n % 12);
             seen(r.answer, r.bench)
         }
         _ => {

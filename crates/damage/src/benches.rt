@@ -29,6 +29,19 @@ pub(crate) fn both_ends() -> Bench {
     b.open_sub(62, 63).bench
 }
 
+// Beside a running top two groups: 2 and 3, which took instruments 5 and 6, drain under 2, and 9 at instrument 6 under itself.
+pub(crate) fn two_groups() -> Bench {
+    let b = Bench::empty().open_top(1).bench;
+    let b = b.open_sub(2, 1).bench;
+    let b = b.open_sub(3, 2).bench;
+    let b = b.write(3, 5).bench;
+    let b = b.read(3, 6).bench;
+    let b = b.abort(2).bench;
+    let b = b.open_top(9).bench;
+    let b = b.read(9, 6).bench;
+    b.abort(9).bench
+}
+
 // All 64 numbers: 0 a top, and each other one, k + 1, under k / 2.
 fn all_numbers() -> Bench {
     let mut b = Bench::empty().open_top(0).bench;
@@ -38,8 +51,8 @@ fn all_numbers() -> Bench {
     b
 }
 
-// All 64 numbers in use and sets at all 128 instruments, read by the 32 numbers that have no children and every third written too; then every
-// fifth of these numbers is committed.
+// All 64 numbers in use and sets at all 128 instruments, read by the 32 numbers that have no children and every third written too; then of these numbers
+// every fifth is committed, and every fifth drains.
 pub(crate) fn full() -> Bench {
     let mut b = all_numbers();
     for i in 0..128u32 {
@@ -52,6 +65,9 @@ pub(crate) fn full() -> Bench {
         if n % 5 == 0 {
             b = b.commit(n).bench;
         }
+        if n % 5 == 1 {
+            b = b.abort(n).bench;
+        }
     }
     b
 }
@@ -62,25 +78,28 @@ pub(crate) struct Walk {
     pub(crate) x: u64,
 }
 
-// Which request a drawn number stands for: in sixteen 2 open top, 5 open sub, 4 read, 3 write, 1 commit and 1 abort.
+// Which request a drawn number stands for: in sixteen 2 open top, 4 open sub, 3 read, 3 write, 1 commit, 1 abort and 2 quiet.
 fn code_of(choice: u64) -> u64 {
     let c = choice % 16;
     if c < 2 {
         return 1;
     }
-    if c < 7 {
+    if c < 6 {
         return 2;
     }
-    if c < 11 {
+    if c < 9 {
         return 3;
     }
-    if c < 14 {
+    if c < 12 {
         return 4;
     }
-    if c < 15 {
+    if c < 13 {
         return 5;
     }
-    6
+    if c < 14 {
+        return 6;
+    }
+    7
 }
 
 // One of 16 numbers, the last among them.
@@ -88,7 +107,7 @@ fn number_of(x: u64) -> u32 {
     (x % 16 * 4 + 3) as u32
 }
 
-// What the second number of a request is: a parent for open sub, and one of 8 instruments, the last among them, for read and write.
+// What the second number of a request is: a parent for open sub, and one of 8 instruments, the last among them, for read, write and quiet.
 fn second_of(code: u64, x: u64) -> u32 {
     if code == 2 {
         return number_of(x);

@@ -42,6 +42,7 @@ pub(crate) fn changes(start: u64) -> u64 {
     sum = changes_of(benches::one_top(), 1, sum);
     sum = changes_of(benches::middle_of_the_trace(), 1, sum);
     sum = changes_of(benches::both_ends(), 1, sum);
+    sum = changes_of(benches::two_groups(), 1, sum);
     let walk = benches::Walk {
         bench: Bench::empty(),
         x: 1,

@@ -2,7 +2,7 @@
 -- that says less is refused here, whatever its method is proved to do. Assumes nothing.
 use denote.Ref.{now}
 use Prim.Native.Nat.{ℕ}
-use Rattle.rules.specs.Requests.{openTop, openSub, commit, abort}
+use Rattle.rules.specs.Requests.{openTop, openSub, commit, abort, quiet}
 use Rattle.rules.specs.ReadWrite.{read, write}
 use Rattle.bench.specs.declared.Bench.{Bench}
 use Rattle.bench.specs.declared.Reply.{Reply}
@@ -17,6 +17,7 @@ use Rattle.bench.proofs.Bench.read.Reads as of-read
 use Rattle.bench.proofs.Bench.write.Reads as of-write
 use Rattle.bench.proofs.Bench.commit.Reads as of-commit
 use Rattle.bench.proofs.Bench.abort.Reads as of-abort
+use Rattle.bench.proofs.Bench.quiet.Reads as of-quiet
 use Rattle.play.proofs.Player.feed.Reads as of-feed
 use Rattle.play.proofs.Player.explain.Reads as of-explain
 use Rattle.play.proofs.Player.finish.Reads as of-finish
@@ -44,6 +45,9 @@ module _ (b : Bench) (r : Reply) where
 
   pub abort-ensures : (a : ℕ) → of-abort.Learnt tt (b, (a, tt)) r (b, (a, tt)) → Returns b (abort a) r
   abort-ensures a learnt = learnt
+
+  pub quiet-ensures : (a i : ℕ) → of-quiet.Learnt tt (b, (a, (i, tt))) r (b, (a, (i, tt))) → Returns b (quiet a i) r
+  quiet-ensures a i learnt = learnt
 
 -- ---- the player
 

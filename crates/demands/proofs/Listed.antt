@@ -6,13 +6,13 @@ use mathlib.Core.List.{List, [], _∷_}
 use mathlib.Core.Option.{Option, none, some}
 use Prim.Native.Nat.{ℕ, zero, suc, _^_, _≤_, _<_}
 use native.Mathlib.Omega.{arith}
-use borrow.Author.Tests.{eq-eqb, ne-eqb, ltb-true, ltb-false}
+use borrow.Author.Tests.{eq-eqb, ne-eqb, lt-ltb, ltb-true, ltb-false}
 use lib.Dec.{eqb, ltb}
 use lib.ListN.{length, getD, List·getD-eq-default}
 use Rattle.sets.specs.Sets.{member, with}
 use Rattle.sets.proofs.Laws.{member-empty, member-with, with-fits}
 use Rattle.rules.specs.Tests.{from}
-use Rattle.rules.specs.Bench.{State, free, running, committed, meaningless}
+use Rattle.rules.specs.Bench.{State, free, running, committed, draining}
 use Rattle.rules.specs.Bench as rules
 use Rattle.rules.proofs.Tests.{by-bool, by-last, or-right}
 use Rattle.views.specs.View.{stateOf, parentOf, setsOf}
@@ -79,9 +79,30 @@ word-at (suc n) test k fits l =
 
 -- ---- a bench within the table is a record
 
--- nothing outside the 64 numbers, 128 instruments and two modes
+-- A byte means this state. A head above 63 has none, and neither has a state of which it is said that a byte from 3 to 66 means nothing.
+abbrev pub HasByte : State → Type 0
+HasByte s = stateOf 64 (byteOf s) ≡ s
+
+pub free-byte : HasByte free
+unfolding byteOf
+free-byte = refl
+
+pub running-byte : HasByte running
+unfolding byteOf
+running-byte = refl
+
+pub committed-byte : HasByte committed
+unfolding byteOf
+committed-byte = refl
+
+pub draining-byte : (h : ℕ) → h < 64 → HasByte (draining h)
+unfolding byteOf
+draining-byte h l = rw (lt-ltb h 64 l)
+
+-- nothing outside the 64 numbers, 128 instruments and two modes, and no state that has no byte
 pub record Within (v : rules.Bench) : Type 0 where
   pub states : (k : ℕ) → 64 ≤ k → v .state k ≡ free
+  pub bytes : (k : ℕ) → HasByte (v .state k)
   pub parents : (k : ℕ) → 64 ≤ k → v .parent k ≡ none
   pub numbers : (m i k : ℕ) → 64 ≤ k → v .stands m i k ≡ false
   pub instruments : (m i k : ℕ) → 128 ≤ i → v .stands m i k ≡ false
@@ -109,13 +130,6 @@ record-fits v =
       writesFit = λ i l. rw (listed-at 128 (λ i. wordOf 64 (v .stands 1 i)) i l) (word-fits 64 (v .stands 1 i));
     }
 
-byte-state : (s : State) → stateOf (byteOf s) ≡ s
-unfolding byteOf
-byte-state free = refl
-byte-state running = refl
-byte-state committed = refl
-byte-state (meaningless n) = refl
-
 byte-parent : (o : Option ℕ) → parentOf (from o 0 suc) ≡ o
 byte-parent none = refl
 byte-parent (some p) = refl
@@ -136,8 +150,8 @@ unfolding recordOf
 record-shown v w =
     same-bench (viewed (recordOf v)) v
     (λ k. by-place k 64
-    (λ l. ap stateOf (listed-at 64 (λ k. byteOf (v .state k)) k l) ∙ byte-state (v .state k))
-    (λ past. ap stateOf (listed-past 64 (λ k. byteOf (v .state k)) k past) ∙ sym (w .states k past)))
+    (λ l. ap (stateOf 64) (listed-at 64 (λ k. byteOf (v .state k)) k l) ∙ w .bytes k)
+    (λ past. ap (stateOf 64) (listed-past 64 (λ k. byteOf (v .state k)) k past) ∙ sym (w .states k past)))
     (λ k. by-place k 64
     (λ l. ap parentOf (listed-at 64 (λ k. from (v .parent k) 0 suc) k l) ∙ byte-parent (v .parent k))
     (λ past. ap parentOf (listed-past 64 (λ k. from (v .parent k) 0 suc) k past) ∙ sym (w .parents k past)))

@@ -39,7 +39,7 @@ module _ (b : Bench) (a i : ℕ) (r : Reply) (asker : Asker b a i) where
   unfolding rowBy
   given m returned h = answered m returned ∙ rw (lt-leb 64 a (asker .known), lt-leb 128 i (asker .instrument), asker .runs, asker .alone, h)
 
-  kept-out : (m : ℕ) → Returns b (ask m a i) r → granted readWrite (viewed b) m a i ≡ false → r .answer ≡ 6
+  pub kept-out : (m : ℕ) → Returns b (ask m a i) r → granted readWrite (viewed b) m a i ≡ false → r .answer ≡ 6
   unfolding rowBy
   kept-out m returned h = answered m returned ∙ rw (lt-leb 64 a (asker .known), lt-leb 128 i (asker .instrument), asker .runs, asker .alone, h)
 
@@ -73,15 +73,15 @@ module _ (b : Bench) (q : Request) (r : Reply) (returned : Returns b q r) (accep
   unfolding step
   answer-zero = sym (ap (λ o. o .answer) returned) ∙ accepted
 
-  was-sound : sound readWrite (viewed b) ≡ true
+  pub was-sound : sound readWrite (viewed b) ≡ true
   was-sound = granted-by readWrite (viewed b) q (answerOf readWrite (viewed b) q) refl answer-zero .isSound
 
   row-zero : row readWrite (viewed b) q ≡ 0
   row-zero = answer-sound readWrite (viewed b) q true (sym was-sound) refl ∙ answer-zero
 
-  left : viewed (r .bench) ≡ effect readWrite (viewed b) q
+  pub next-view : viewed (r .bench) ≡ effect readWrite (viewed b) q
   unfolding step
-  left = ap (λ o. o .next) returned ∙ rw answer-zero
+  next-view = ap (λ o. o .next) returned ∙ rw answer-zero
 
 -- ---- commit of a sub
 
@@ -96,7 +96,7 @@ commit-hands-up b a p r fb fr under returned accepted =
     }
   where
     next : viewed (r .bench) ≡ effect readWrite (viewed b) (commit a)
-    next = left b (commit a) r returned accepted
+    next = next-view b (commit a) r returned accepted
 
     kept : (m i k : ℕ) → viewed (r .bench) .stands m i k ≡ viewed b .stands m i k
     kept m i k = ap (λ v. v .stands m i k) next ∙ ap (λ f. f m i k) (commit-changes-no-set readWrite (viewed b) a p under)
@@ -111,7 +111,7 @@ commit-hands-up b a p r fb fr under returned accepted =
 -- the sets that an accepted read or write leaves
 asked-sets : (b : Bench) (m a i : ℕ) (r : Reply) → Returns b (ask m a i) r → r .answer ≡ 0 → (held at k : ℕ) → viewed (r .bench) .stands held at k ≡ (viewed b .stands held at k || (eqb held m && eqb at i && eqb k a))
 unfolding effect
-asked-sets b m a i r returned accepted held at k = ap (λ v. v .stands held at k) (left b (ask m a i) r returned accepted)
+asked-sets b m a i r returned accepted held at k = ap (λ v. v .stands held at k) (next-view b (ask m a i) r returned accepted)
 
 -- Whoever is given a read stands in the read set from then on, a present write owner too. No other number enters or leaves a read set, and no write set
 -- changes.
@@ -120,7 +120,7 @@ pub read-enters : (b : Bench) (a i : ℕ) (r : Reply) → Fits b → Fits (r .be
     × ((at k : ℕ) → inReadSet (r .bench) at k ≡ (inReadSet b at k || (eqb at i && eqb k a)))
     × (r .bench .writes ≡ b .writes)
 read-enters b a i r fb fr returned accepted = (
-  ap (λ v. v .stands reading i a) (left b (read a i) r returned accepted) ∙ ask-enters readWrite (viewed b) reading a i,
+  ap (λ v. v .stands reading i a) (next-view b (read a i) r returned accepted) ∙ ask-enters readWrite (viewed b) reading a i,
   asked-sets b reading a i r returned accepted reading,
   same-sets (r .bench .writes) (b .writes) (fr .writesLong) (fb .writesLong) (fr .writesFit) (fb .writesFit)
       (λ at k. asked-sets b reading a i r returned accepted writing at k ∙ or-false (inWriteSet b at k)),
@@ -132,7 +132,7 @@ pub write-enters : (b : Bench) (a i : ℕ) (r : Reply) → Fits b → Fits (r .b
     × ((at k : ℕ) → inWriteSet (r .bench) at k ≡ (inWriteSet b at k || (eqb at i && eqb k a)))
     × (r .bench .reads ≡ b .reads)
 write-enters b a i r fb fr returned accepted = (
-  ap (λ v. v .stands writing i a) (left b (write a i) r returned accepted) ∙ ask-enters readWrite (viewed b) writing a i,
+  ap (λ v. v .stands writing i a) (next-view b (write a i) r returned accepted) ∙ ask-enters readWrite (viewed b) writing a i,
   asked-sets b writing a i r returned accepted writing,
   same-sets (r .bench .reads) (b .reads) (fr .readsLong) (fb .readsLong) (fr .readsFit) (fb .readsFit)
       (λ at k. asked-sets b writing a i r returned accepted reading at k ∙ or-false (inReadSet b at k)),

@@ -1,2 +1,3 @@
 pub mod Moss
+pub mod Draining
 pub mod Through

@@ -6,26 +6,20 @@ use bench::Bench;
 use image;
 use marks::answers::ACCEPTED;
 use marks::answers::UNSOUND;
+use marks::codes::ABORT;
+use marks::codes::COMMIT;
+use marks::codes::OPEN_SUB;
+use marks::codes::OPEN_TOP;
+use marks::codes::QUIET;
+use marks::codes::READ;
+use marks::codes::WRITE;
 ghost use mathlib.Core.Path.{_≡_};
 ghost use mathlib.Core.Option.{some};
-ghost use Rattle.rules.specs.Requests.{openTop, openSub, commit, abort};
+ghost use Rattle.rules.specs.Requests.{openTop, openSub, commit, abort, quiet};
 ghost use Rattle.rules.specs.ReadWrite.{read, write};
 ghost use Rattle.image.specs.Image.{Requested};
 ghost use Rattle.saved.specs.Saved.{emptyRecord, loadOf};
 ghost use Rattle.dikothelm.specs.Calls.{Replaced, soundAnswer, SavedAs, SizeTold};
-
-// The codes of the requests, as trace lines have them.
-const OPEN_TOP: u8 = 1;
-
-const OPEN_SUB: u8 = 2;
-
-const READ: u8 = 3;
-
-const WRITE: u8 = 4;
-
-const COMMIT: u8 = 5;
-
-const ABORT: u8 = 6;
 
 // Makes the image that of an empty bench.
 #[no_mangle]
@@ -110,7 +104,7 @@ pub extern "C" fn dikothelm_image_commit(actions: &mut [u8], owners: &mut [u64],
     image::request(actions, owners, COMMIT, a, 0)
 }
 
-// a and all its descendants, running or committed, become free and leave all sets.
+// a and all its descendants, running or committed, drain under a where one of them stands in a set, and else become free. No set changes.
 #[no_mangle]
 pub extern "C" fn dikothelm_image_abort(actions: &mut [u8], owners: &mut [u64], a: u32) -> u8
     ensures { λ r. ⌜ Requested (some (abort a)) (now (actions .entry)) (now (owners .entry)) r (now (actions .exit)) (now (owners .exit)) ⌝ }
@@ -118,12 +112,25 @@ pub extern "C" fn dikothelm_image_abort(actions: &mut [u8], owners: &mut [u64], 
     image::request(actions, owners, ABORT, a, 0)
 }
 
+// Instrument i is quiet for the aborted action a: all numbers that drain under a leave its sets, and become free when none of them is left in any set.
+#[no_mangle]
+pub extern "C" fn dikothelm_image_quiet(
+    actions: &mut [u8],
+    owners: &mut [u64],
+    a: u32,
+    i: u32,
+) -> u8
+    ensures { λ r. ⌜ Requested (some (quiet a i)) (now (actions .entry)) (now (owners .entry)) r (now (actions .exit)) (now (owners .exit)) ⌝ }
+{
+    image::request(actions, owners, QUIET, a, i)
+}
+
 // The library's version: major × 65536 + minor × 256 + patch.
 #[no_mangle]
 pub extern "C" fn dikothelm_version() -> u32
-    ensures { λ r. ⌜ r ≡ 512 ⌝ }
+    ensures { λ r. ⌜ r ≡ 768 ⌝ }
 {
-    512
+    768
 }
 
 // How many bytes the bench's text has, in `count`; 7 and 0 where there is no sound bench.

@@ -1,6 +1,6 @@
-// Explains a trace: lines on standard input, and for each on standard output its answer, whom that names, and for 6 how that one owns the instrument. It
-// starts from an empty bench; empty input gives empty output; it ends with its input. Where a read fails, the lines before it are explained and a begun line
-// is not; where a write fails, it stops.
+// Explains a trace: lines on standard input, and for each on standard output its answer, whom that names, and for 6 how that one owns the instrument and
+// whether it drains. It starts from an empty bench; empty input gives empty output; it ends with its input. Where a read fails, the lines before it are explained
+// and a begun line is not; where a write fails, it stops.
 use play::Player;
 
 // The player after a turn, and whether there may be more to explain.
@@ -11,7 +11,7 @@ struct Played {
 
 // The end of the input: a last line that lacks its 0a is explained.
 fn ended(player: Player) {
-    let mut out = [0u8; 14];
+    let mut out = [0u8; 23];
     let finished = player.finish_explaining(&mut out);
     let written = finished.written;
     if streams::write_whole(&out[..written]) {
@@ -58,7 +58,7 @@ fn main() {
     let mut turns = u64::MAX;
     let mut goes_on = true;
     let mut input = [0u8; 8192];
-    let mut out = [0u8; 114688];
+    let mut out = [0u8; 188416];
     while turns > 0 && goes_on {
         turns -= 1;
         let done = turn(player, &mut input, &mut out);

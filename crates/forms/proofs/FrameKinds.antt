@@ -1,16 +1,15 @@
 -- What is shown of every kind of frame, from laws about its values alone: a frame is read as it was written, none stands where another does, and one that
 -- stands is the writing of what is read. And the laws of frames of actions and of instruments.
 use mathlib.Core.Path.{_≡_, refl, sym, _∙_, ap}
-use mathlib.Core.Bool.{Bool, true, false, not, _&&_}
+use mathlib.Core.Bool.{Bool, true, false, not, _&&_, _||_}
 use mathlib.Core.List.{List, [], _++_}
-use Prim.Native.Nat.{ℕ, zero, suc, _+_, _^_, _≤_, _<_}
-use native.Mathlib.Numerals.{add-one}
+use Prim.Native.Nat.{ℕ, zero, suc, _+_, _-_, _^_, _≤_, _<_}
 use native.Mathlib.Omega.{arith}
-use borrow.Author.Tests.{ltb-true, lt-ltb, eqb-true, eq-eqb, ne-eqb, not-true}
+use borrow.Author.Tests.{ltb-true, ltb-false, lt-ltb, le-ltb, eqb-true, eqb-false, ne-eqb, not-true}
 use lib.Dec.{eqb, ltb}
 use lib.ListN.{length, drop}
 use Rattle.rules.proofs.Tests.{by-bool, by-or, clash, refuted, and-left, and-right}
-use Rattle.forms.specs.Kinds.{frameSize, Kind, parentDigits, parentByte, stateFits, parentFits, action, instrument}
+use Rattle.forms.specs.Kinds.{frameSize, Kind, stateDigits, parentDigits, parentByte, stateFits, parentFits, action, instrument}
 use Rattle.forms.specs.Text.{frameOf}
 use Rattle.forms.specs.WellShaped.{headAt, firstAt, secondAt, standsAt, firstIn, secondIn}
 use Rattle.forms.proofs.Hex.{number-fits}
@@ -104,57 +103,112 @@ module _ (K : Kind) {Shaped : ℕ → ℕ → Type 0} (laws : Laws K Shaped) whe
 
 -- ---- actions
 
-pub record ParentRead (p : ℕ) : Type 0 where
-  pub byteBack : parentByte (parentDigits p) ≡ p
-  pub fits : parentFits (parentDigits p) ≡ true
-  pub narrow : parentDigits p < 256
-
-pub parent-read : (p : ℕ) → p ≤ 64 → ParentRead p
-parent-read zero l = record { byteBack = refl; fits = refl; narrow = omega arith }
-parent-read (suc p) l =
-    record { byteBack = rw (ne-eqb p 0xff (λ z. omega arith), add-one); fits = rw (lt-ltb p 64 l); narrow = omega arith }
-
-pub parent-written : (x : ℕ) → parentFits x ≡ true → (parentDigits (parentByte x) ≡ x) × (parentByte x ≤ 64)
-parent-written x h =
-    by-bool (eqb x 0xff) (λ top. rw top (sym (eqb-true x 0xff top), omega arith))
-    (λ under. rw (under, add-one) (refl, ltb-true x 64 (by-or (ltb x 64) (eqb x 0xff) h (λ low. low) (λ top. clash (eqb x 0xff) top under))))
-
-state-read : (s : ℕ) → s ≤ 2 → eqb s 0 ≡ false → stateFits s ≡ true
-state-read zero l used = clash true refl used
-state-read (suc zero) l used = refl
-state-read (suc (suc zero)) l used = refl
-state-read (suc (suc (suc s))) l used = absurd (omega arith)
-
-state-written : (s : ℕ) → stateFits s ≡ true → (eqb s 0 ≡ false) × (s ≤ 2)
-state-written s h =
-    by-or (eqb s 1) (eqb s 2) h (λ e. rw (eqb-true s 1 e) (refl, omega arith)) (λ e. rw (eqb-true s 2 e) (refl, omega arith))
-
--- p a parent's byte and s a state's
+-- p a parent's byte and s a state's. Of the bytes that mean nothing the text has one, 67; and who is neither running nor committed has no parent.
 pub record ShapedAction (p s : ℕ) : Type 0 where
   pub parentKnown : p ≤ 64
-  pub stateKnown : s ≤ 2
-  pub freeHasNoParent : s ≡ 0 → p ≡ 0
+  pub stateKnown : s ≤ 67
+  pub parentInTree : (s ≡ 1 → ⊥) → (s ≡ 2 → ⊥) → p ≡ 0
+
+-- pp of a number of the tree is read as its parent's byte: the same for both states
+record ParentRead (p : ℕ) : Type 0 where
+  byteBack : parentByte 1 (parentDigits p 1) ≡ p
+  fits : parentFits (parentDigits p 1) ≡ true
+
+parent-read : (p : ℕ) → p ≤ 64 → ParentRead p
+parent-read p l =
+    by-bool (eqb p 0) (λ top. record { byteBack = rw top (sym (eqb-true p 0 top)); fits = rw top })
+    (λ under.
+    let above = eqb-false p 0 under in
+    record {
+      byteBack = rw (under, ne-eqb (p - 1) 0xff (λ z. absurd (omega arith))) (omega arith);
+      fits = rw (under, lt-ltb (p - 1) 64 (omega arith));
+    })
+
+-- and written from it again
+parent-written : (pp : ℕ) → parentFits pp ≡ true → (parentDigits (parentByte 1 pp) 1 ≡ pp) × (parentByte 1 pp ≤ 64)
+parent-written pp h =
+    by-or (ltb pp 64) (eqb pp 0xff) h
+    (λ low.
+    let l = ltb-true pp 64 low in
+    rw (ne-eqb pp 0xff (λ z. absurd (omega arith)), ne-eqb (pp + 1) 0 (λ z. absurd (omega arith))) (omega arith, omega arith))
+    (λ top. rw (eqb-true pp 0xff top) (refl, omega arith))
+
+-- a head is read as its group's byte
+head-read : (p s : ℕ) → 3 ≤ s → s ≤ 67 → p ≡ 0 → SaidAgain action p s
+head-read p s l u alone =
+    by-bool (ltb s 67)
+    (λ headed.
+    let below = ltb-true s 67 headed in
+    let known = lt-ltb (s - 3) 64 (omega arith) in
+    record { fit = rw (left, headed, known); first = rw left (sym alone); second = rw (left, headed, known) (omega arith) })
+    (λ none.
+    let last : s ≡ 67 = (let above = ltb-false s 67 none in omega arith) in
+    rw last (record { fit = refl; first = sym alone; second = refl }))
+  where
+    left : ltb s 3 ≡ false
+    left = le-ltb s 3 l
+
+-- and written from it again
+head-written : (pp : ℕ) → parentFits pp ≡ true → WrittenAgain action ShapedAction 3 pp
+head-written pp h =
+    by-or (ltb pp 64) (eqb pp 0xff) h
+    (λ low.
+    let l = ltb-true pp 64 low in
+    let left = le-ltb (3 + pp) 3 (omega arith) in
+    let headed = lt-ltb (3 + pp) 67 (omega arith) in
+    record {
+      first = rw (low, left);
+      second = rw (low, left, headed) (omega arith);
+      inUse = rw (low, ne-eqb (3 + pp) 0 (λ z. absurd (omega arith)));
+      shaped = rw low (record { parentKnown = omega arith; stateKnown = omega arith; parentInTree = λ a b. refl });
+    })
+    (λ top.
+    rw (eqb-true pp 0xff top)
+    (record { first = refl; second = refl; inUse = refl; shaped = record { parentKnown = omega arith; stateKnown = omega arith; parentInTree = λ a b. refl } }))
+
+action-said : (p s : ℕ) → ShapedAction p s → eqb s 0 ≡ false → SaidAgain action p s
+action-said p zero h used = clash true refl used
+action-said p (suc zero) h used = let up = parent-read p (h .parentKnown) in record { fit = up .fits; first = up .byteBack; second = refl }
+action-said p (suc (suc zero)) h used = let up = parent-read p (h .parentKnown) in record { fit = up .fits; first = up .byteBack; second = refl }
+action-said p (suc (suc (suc x))) h used =
+    head-read p (suc (suc (suc x))) (omega arith) (h .stateKnown) (h .parentInTree (λ e. absurd (omega arith)) (λ e. absurd (omega arith)))
+
+action-written : (ss pp : ℕ) → stateFits ss ≡ true → parentFits pp ≡ true → WrittenAgain action ShapedAction ss pp
+action-written ss pp hs hp =
+    by-or (eqb ss 1 || eqb ss 2) (eqb ss 3) hs
+    (λ tree.
+    by-or (eqb ss 1) (eqb ss 2) tree
+    (λ e.
+    rw (eqb-true ss 1 e)
+    (record { first = refl; second = up .0; inUse = refl; shaped = record { parentKnown = up .1; stateKnown = omega arith; parentInTree = λ a b. absurd (a refl) } }))
+    (λ e.
+    rw (eqb-true ss 2 e)
+    (record { first = refl; second = up .0; inUse = refl; shaped = record { parentKnown = up .1; stateKnown = omega arith; parentInTree = λ a b. absurd (b refl) } })))
+    (λ e. rw (eqb-true ss 3 e) (head-written pp hp))
+  where
+    up : (parentDigits (parentByte 1 pp) 1 ≡ pp) × (parentByte 1 pp ≤ 64)
+    up = parent-written pp hp
+
+-- both values have two digits
+action-narrow : (p s : ℕ) → ShapedAction p s → (stateDigits s < 256) × (parentDigits p s < 256)
+action-narrow p s h =
+    let lp = h .parentKnown in
+    let ls = h .stateKnown in
+    by-bool (ltb s 3)
+    (λ tree. rw tree (omega arith, by-bool (eqb p 0) (λ top. rw top (omega arith)) (λ under. rw under (omega arith))))
+    (λ left. rw left (omega arith, by-bool (ltb s 67) (λ headed. rw headed (omega arith)) (λ none. rw none (omega arith))))
 
 pub action-laws : Laws action ShapedAction
 action-laws =
     record {
       codeFits = omega arith;
-      firstFits = λ p s h. let l = h .stateKnown in omega arith;
-      secondFits = λ p s h. parent-read p (h .parentKnown) .narrow;
+      firstFits = λ p s h. action-narrow p s h .0;
+      secondFits = λ p s h. action-narrow p s h .1;
       zerosBare = refl;
-      bareZeros = λ p s h b. (h .freeHasNoParent (eqb-true s 0 b), eqb-true s 0 b);
-      says = λ p s h used.
-          let up = parent-read p (h .parentKnown) in
-          record { fit = rw (state-read s (h .stateKnown) used) (up .fits); first = up .byteBack; second = refl };
-      writes = λ s p ls lp h.
-          let state = state-written s (and-left (stateFits s) (parentFits p) h) in
-          let parent = parent-written p (and-right (stateFits s) (parentFits p) h) in
-          record {
-            first = refl;
-            second = parent .0;
-            inUse = state .0;
-            shaped = record { parentKnown = parent .1; stateKnown = state .1; freeHasNoParent = λ z. clash (eqb s 0) (eq-eqb s 0 z) (state .0) };
-          };
+      bareZeros = λ p s h b.
+          let free = eqb-true s 0 b in (h .parentInTree (λ e. absurd (omega arith)) (λ e. absurd (omega arith)), free);
+      says = action-said;
+      writes = λ ss pp ls lp h. action-written ss pp (and-left (stateFits ss) (parentFits pp) h) (and-right (stateFits ss) (parentFits pp) h);
     }
 
 -- ---- instruments

@@ -5,22 +5,23 @@ use mathlib.Core.Bool.{true, false}
 use mathlib.Core.Logic.{_↔_}
 use mathlib.Core.List.{List, [], _++_, append-assoc, append-nil}
 use mathlib.Core.Option.{Option, none, some, Option·none-ne-some}
-use Prim.Native.Nat.{ℕ, zero, suc, _≤_, _<_}
+use Prim.Native.Nat.{ℕ, zero, suc, _-_, _≤_, _<_}
 use native.Mathlib.Nat.{zero-add}
 use native.Mathlib.Omega.{arith}
-use borrow.Author.Tests.{eqb-true, eq-eqb}
+use borrow.Author.Tests.{ltb-true, eqb-true, eqb-false, eq-eqb}
 use lib.Dec.{eqb}
 use lib.ListN.{length, getD, drop, replicate, length-append, length-replicate}
 use lib.Seq.{drop-length, drop-append-seam}
 use Rattle.rules.specs.Tests.{all}
-use Rattle.rules.specs.Sound.{meansSomething, standsNowhere, reachesTop, sound}
+use Rattle.rules.specs.Sound.{standsNowhere, reachesTop, sound}
 use Rattle.rules.specs.ReadWrite.{readWrite}
-use Rattle.rules.proofs.Tests.{by-bool, clash}
-use Rattle.rules.proofs.Facts.{sound-facts}
+use Rattle.rules.proofs.Tests.{by-bool}
+use Rattle.rules.proofs.Facts.{SoundNumber, sound-facts}
 use Rattle.bench.specs.declared.Bench.{Bench}
-use Rattle.views.specs.View.{stateOf, parentOf}
+use Rattle.views.specs.View.{parentOf}
 use Rattle.bench.specs.Record.{viewed}
 use Rattle.tables.proofs.Bytes.{none-byte}
+use Rattle.tables.proofs.States.{free-byte, means-byte, byte-head}
 use Rattle.bench.proofs.Unique.{Fits}
 use Rattle.forms.specs.Kinds.{action, instrument}
 use Rattle.forms.specs.Text.{hexOf, cellOf, cellsFrom, actionsText, instrumentsText, textOf}
@@ -30,7 +31,7 @@ use Rattle.forms.proofs.Rows.{Untaken, row-refutes, row-short, row-said
 
 -- ---- a record's text says the record
 
--- A record that has a text: states 0, 1 and 2, parents up to 64, and a free number has none.
+-- A record that has a text: state bytes and parent bytes as the text has them, and sets of 64 bits.
 pub record Shaped (b : Bench) : Type 0 where
   pub fits : Fits b
   pub actions : (k : ℕ) → k < 64 → ShapedAction (getD (b .parents) k 0) (getD (b .states) k 0)
@@ -88,10 +89,12 @@ sound-shaped b fits ok =
       fits = fits;
       actions = λ k l.
           let f = sound-facts readWrite (viewed b) ok k l in
+          let s = getD (b .states) k 0 in
+          let known = ltb-true s 67 (sym (means-byte 64 s) ∙ f .means) in
           record {
             parentKnown = known-parent (getD (b .parents) k 0) (f .parentKnown);
-            stateKnown = known-state (getD (b .states) k 0) (f .means);
-            freeHasNoParent = λ z. none-byte (getD (b .parents) k 0) (f .freeHasNoParent (rw z));
+            stateKnown = omega arith;
+            parentInTree = λ notRunning notCommitted. none-byte (getD (b .parents) k 0) (outside k f known notRunning notCommitted);
           };
     }
   where
@@ -99,11 +102,13 @@ sound-shaped b fits ok =
     known-parent zero h = omega arith
     known-parent (suc p) h = h p refl
 
-    known-state : (s : ℕ) → meansSomething (stateOf s) ≡ true → s ≤ 2
-    known-state zero h = omega arith
-    known-state (suc zero) h = omega arith
-    known-state (suc (suc zero)) h = omega arith
-    known-state (suc (suc (suc s))) h = clash false h refl
+    -- who is neither running nor committed is free or drains, and has no parent
+    outside : (k : ℕ) → SoundNumber readWrite (viewed b) k → let s = getD (b .states) k 0 in
+        s < 67 → (s ≡ 1 → ⊥) → (s ≡ 2 → ⊥) → viewed b .parent k ≡ none
+    outside k f known notRunning notCommitted =
+        let s = getD (b .states) k 0 in
+        by-bool (eqb s 0) (λ free. f .freeHasNoParent (free-byte 64 s ∙ free))
+        (λ used. let above = eqb-false s 0 used in f .drains (s - 3) (byte-head 64 s (s - 3) (omega arith) (omega arith)) .noParent)
 
 -- The text of a sound record says that record.
 pub text-says-record : (b : Bench) → Fits b → sound readWrite (viewed b) ≡ true → recordIn (textOf b) ≡ some b
@@ -178,7 +183,7 @@ said-shaped text b e = rw (← said-read text b e .0) (record { fits = fits; act
     actions : (k : ℕ) → ShapedAction (getD (readFrom text .parents) k 0) (getD (readFrom text .states) k 0)
     actions =
         taken-shaped action action-laws text 64 0 (noneTaken 64 0) (zeros-untaken 64 0)
-        (λ j. rw (zeros-read 64 j) (record { parentKnown = omega arith; stateKnown = omega arith; freeHasNoParent = λ z. refl }))
+        (λ j. rw (zeros-read 64 j) (record { parentKnown = omega arith; stateKnown = omega arith; parentInTree = λ notRunning notCommitted. refl }))
 
     sets : (i : ℕ) → ShapedSets (getD (readFrom text .reads) i 0) (getD (readFrom text .writes) i 0)
     sets =

@@ -1,6 +1,7 @@
--- The kinds of frame of the saved form (document 01, "Saved form"), each said once: what is written and what is read both follow from it.
+-- The kinds of frame of the saved form (document 01, "Saved form", and document 02, order 2), each said once: what is written and what is read both
+-- follow from it.
 use mathlib.Core.Bool.{Bool, not, _&&_, _||_}
-use Prim.Native.Nat.{ℕ, zero, suc, _+_}
+use Prim.Native.Nat.{ℕ, _+_, _-_}
 use lib.Dec.{eqb, ltb}
 use Rattle.rules.specs.Tests.{if_then_else_}
 
@@ -35,21 +36,31 @@ pub record Kind : Type 0 where
   pub firstElement : ℕ → ℕ → ℕ
   pub secondElement : ℕ → ℕ → ℕ
 
--- a parent in the text, from its byte in the record: ff for a top action, else the parent
-abbrev pub parentDigits : ℕ → ℕ
-parentDigits zero = 0xff
-parentDigits (suc p) = p
+-- ss, from a state's byte: 01 running, 02 committed, 03 draining
+abbrev pub stateDigits : ℕ → ℕ
+stateDigits state = if ltb state 3 then state else 3
 
--- and back
-abbrev pub parentByte : ℕ → ℕ
-parentByte p = if eqb p 0xff then 0 else p + 1
+-- pp, from both bytes: the parent, ff for a top action; of a number that drains the aborted action, which its state's byte names
+abbrev pub parentDigits : ℕ → ℕ → ℕ
+parentDigits parent state =
+    if ltb state 3
+    then (if eqb parent 0 then 0xff else parent - 1)
+    else (if ltb state 67 then state - 3 else 0xff)
+
+-- and back, the parent's byte: none for a top action, and none for a number that drains, since it has left the tree
+abbrev pub parentByte : ℕ → ℕ → ℕ
+parentByte ss pp = if eqb ss 3 || eqb pp 0xff then 0 else pp + 1
+
+-- and the state's: 3 + h for one that drains under h. ff names no head: 67 means nothing, so that the record isn't sound.
+abbrev pub stateByte : ℕ → ℕ → ℕ
+stateByte ss pp = if eqb ss 3 then (if ltb pp 64 then 3 + pp else 67) else ss
 
 -- the states and the parents that a frame may have
 abbrev pub stateFits : ℕ → Bool
-stateFits s = eqb s 1 || eqb s 2
+stateFits ss = eqb ss 1 || eqb ss 2 || eqb ss 3
 
 abbrev pub parentFits : ℕ → Bool
-parentFits p = ltb p 64 || eqb p 0xff
+parentFits pp = ltb pp 64 || eqb pp 0xff
 
 -- 11 nn ss pp, of parents and states; none for a free number
 abbrev pub action : Kind
@@ -57,11 +68,11 @@ action =
     record {
       shape = record { code = 0x11; firstDigits = 2; secondDigits = 2 };
       bare = λ parent state. eqb state 0;
-      firstValue = λ parent state. state;
-      secondValue = λ parent state. parentDigits parent;
-      fits = λ state parent. stateFits state && parentFits parent;
-      firstElement = λ state parent. parentByte parent;
-      secondElement = λ state parent. state;
+      firstValue = λ parent state. stateDigits state;
+      secondValue = parentDigits;
+      fits = λ ss pp. stateFits ss && parentFits pp;
+      firstElement = parentByte;
+      secondElement = stateByte;
     }
 
 -- 12 ii, 16 digits of read set, 16 digits of write set; none where both are empty

@@ -10,34 +10,34 @@ use Rattle.rules.proofs.Tests.{by-bool}
 use Rattle.rules.specs.Frames.{framed}
 use Rattle.lines.specs.Lines.{shortFrame, longFrame}
 use Rattle.lines.specs.Feeding.{heldRequest}
-use Rattle.frames.specs.Frames.{among, FrameOf, noFrame, shortOf, longOf, heldFrame}
+use Rattle.frames.specs.Frames.{FrameOf, noFrame, shortOf, longOf, heldFrame}
 
--- The request of a code that is one of three, and none of any other.
-abbrev framedAmong : ℕ → ℕ → ℕ → ℕ → ℕ → ℕ → Option Request
-framedAmong code first second third x y =
-    if eqb code first then framed first x y
-    else if eqb code second then framed second x y
-    else if eqb code third then framed third x y
-    else none
+-- code 0 makes no request
+no-code : (x y : ℕ) → FrameOf none (record { code = 0; x = x; y = y })
+no-code x y = record { makes = refl; small = omega arith }
 
--- It is the request of the frame. Frames of four digits have the codes 1, 5 and 6, those of six 2, 3 and 4.
-frame-among : (code first second third x y : ℕ) → first ≤ 6 → second ≤ 6 → third ≤ 6 → FrameOf (framedAmong code first second third x y) (record { code = among code first second third; x = x; y = y })
-frame-among code first second third x y a b c =
-    by-bool (eqb code first) (λ t. rw t (record { makes = refl; small = a }))
-    (λ t. rw t
-    (by-bool (eqb code second) (λ u. rw u (record { makes = refl; small = b }))
-    (λ u. rw u
-    (by-bool (eqb code third) (λ v. rw v (record { makes = refl; small = c }))
-    (λ v. rw v (record { makes = refl; small = omega arith }))))))
+-- one code more: its request, and that of the others where it is another
+one-more : (code wanted x y : ℕ) {r : Option Request} {other : ℕ} → wanted ≤ 7 → FrameOf r (record { code = other; x = x; y = y }) →
+    FrameOf (if eqb code wanted then framed wanted x y else r) (record { code = if eqb code wanted then wanted else other; x = x; y = y })
+one-more code wanted x y small others =
+    by-bool (eqb code wanted) (λ t. rw t (record { makes = refl; small = small })) (λ t. rw t others)
 
 pub none-framed : FrameOf none noFrame
-none-framed = record { makes = refl; small = omega arith }
+none-framed = no-code 0 0
 
+-- Frames of four digits have the codes 1, 5 and 6.
 pub short-framed : (code x : ℕ) → FrameOf (shortFrame code x) (shortOf code x)
-short-framed code x = frame-among code 1 5 6 x 0 (omega arith) (omega arith) (omega arith)
+short-framed code x =
+    one-more code 1 x 0 (omega arith)
+    (one-more code 5 x 0 (omega arith)
+    (one-more code 6 x 0 (omega arith) (by-bool (eqb code 0) (λ t. rw t (no-code x 0)) (λ t. rw t (no-code x 0)))))
 
+-- Frames of six digits have the codes 2, 3, 4 and 7.
 pub long-framed : (code x y : ℕ) → FrameOf (longFrame code x y) (longOf code x y)
-long-framed code x y = frame-among code 2 3 4 x y (omega arith) (omega arith) (omega arith)
+long-framed code x y =
+    one-more code 2 x y (omega arith)
+    (one-more code 3 x y (omega arith)
+    (one-more code 4 x y (omega arith) (one-more code 7 x y (omega arith) (no-code x y))))
 
 -- the frame of a line that has begun
 pub held-framed : (count value : ℕ) → FrameOf (heldRequest count value) (heldFrame count value)

@@ -62,7 +62,7 @@ nextEnd values count value input at =
 
 -- Where a size is given, so many bytes from place `at` on end the line that has begun, with `count` digits that write `value`, and this is its frame.
 pub record EndFound (count value : ℕ) (input : List ℕ) (at : ℕ) (end : End) : Type 0 where
-  pub small : end .frame .code ≤ 6
+  pub small : end .frame .code ≤ 7
   pub within : (end .size ≡ 0 → ⊥) → at + end .size ≤ length input
   pub ends : (end .size ≡ 0 → ⊥) → EndsAs count value (take (end .size) (drop at input)) (requestIn (end .frame))
 

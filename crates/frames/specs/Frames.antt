@@ -15,14 +15,15 @@ requestIn f = framed (f .code) (f .x) (f .y)
 -- This is the frame of a request, or one of code 0 where there is none.
 pub record FrameOf (r : Option Request) (f : Frame) : Type 0 where
   pub makes : requestIn f ≡ r
-  pub small : f .code ≤ 6
+  pub small : f .code ≤ 7
 
--- a code where it is one of three, and else 0
-abbrev pub among : ℕ → ℕ → ℕ → ℕ → ℕ
-among code first second third =
+-- a code where it is one of four, and else 0
+abbrev pub among : ℕ → ℕ → ℕ → ℕ → ℕ → ℕ
+among code first second third fourth =
     if eqb code first then first
     else if eqb code second then second
     else if eqb code third then third
+    else if eqb code fourth then fourth
     else 0
 
 -- ---- the frames of digits
@@ -32,11 +33,11 @@ noFrame = record { code = 0; x = 0; y = 0 }
 
 -- of four: 01, 05 or 06 and one number
 abbrev pub shortOf : ℕ → ℕ → Frame
-shortOf code x = record { code = among code 1 5 6; x = x; y = 0 }
+shortOf code x = record { code = among code 1 5 6 0; x = x; y = 0 }
 
--- of six: 02, 03 or 04 and two numbers
+-- of six: 02, 03, 04 or 07 and two numbers
 abbrev pub longOf : ℕ → ℕ → ℕ → Frame
-longOf code x y = record { code = among code 2 3 4; x = x; y = y }
+longOf code x y = record { code = among code 2 3 4 7; x = x; y = y }
 
 -- of a line that has begun, with `count` digits that write `value`
 unfoldable pub heldFrame : ℕ → ℕ → Frame

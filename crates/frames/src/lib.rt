@@ -5,6 +5,7 @@ use marks::codes::ABORT;
 use marks::codes::COMMIT;
 use marks::codes::OPEN_SUB;
 use marks::codes::OPEN_TOP;
+use marks::codes::QUIET;
 use marks::codes::READ;
 use marks::codes::WRITE;
 ghost use mathlib.Core.Path.{_≡_};
@@ -28,9 +29,9 @@ pub(crate) fn no_frame() -> Frame
     }
 }
 
-// The code, where it is one of the three, and else 0.
-fn among(code: u32, first: u8, second: u8, third: u8) -> u8
-    ensures { λ r. ⌜ r ≡ among code first second third ⌝ }
+// The code, where it is one of the four, and else 0; a 0 among the four is spare.
+fn among(code: u32, first: u8, second: u8, third: u8, fourth: u8) -> u8
+    ensures { λ r. ⌜ r ≡ among code first second third fourth ⌝ }
 {
     if code == first as u32 {
         return first;
@@ -41,6 +42,9 @@ fn among(code: u32, first: u8, second: u8, third: u8) -> u8
     if code == third as u32 {
         return third;
     }
+    if code == fourth as u32 {
+        return fourth;
+    }
     0
 }
 
@@ -49,7 +53,7 @@ pub(crate) fn short_frame(code: u32, x: u32) -> Frame
     ensures { λ r. ⌜ r ≡ shortOf code x ⌝ }
 {
     Frame {
-        code: among(code, OPEN_TOP, COMMIT, ABORT),
+        code: among(code, OPEN_TOP, COMMIT, ABORT, 0),
         x: x,
         y: 0,
     }
@@ -60,7 +64,7 @@ pub(crate) fn long_frame(code: u32, x: u32, y: u32) -> Frame
     ensures { λ r. ⌜ r ≡ longOf code x y ⌝ }
 {
     Frame {
-        code: among(code, OPEN_SUB, READ, WRITE),
+        code: among(code, OPEN_SUB, READ, WRITE, QUIET),
         x: x,
         y: y,
     }

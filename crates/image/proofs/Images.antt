@@ -1,9 +1,9 @@
 -- A bench's image: its lengths, the parents and states read out of it, the image that they are put into, and what a request leaves. Assumes nothing.
 use mathlib.Core.Path.{_≡_, refl, sym, _∙_, ap}
-use mathlib.Core.Bool.{Bool, true, false, not, _||_, false≢true}
+use mathlib.Core.Bool.{Bool, true, false, not, false≢true}
 use mathlib.Core.List.{List, _++_}
-use mathlib.Core.Option.{Option, none}
-use Prim.Native.Nat.{ℕ, _+_, _-_, _≤_, _<_}
+use mathlib.Core.Option.{Option}
+use Prim.Native.Nat.{ℕ, _+_, _≤_}
 use native.Mathlib.Omega.{arith}
 use borrow.Author.Tests.{eqb-true, eqb-false, ne-eqb, ltb-true, ltb-false, not-true, not-false}
 use lib.Dec.{eqb, ltb}
@@ -16,19 +16,19 @@ use Rattle.rules.specs.Requests.{Request}
 use Rattle.rules.specs.Answers.{Outcome, answered}
 use Rattle.rules.specs.Sound.{sound}
 use Rattle.rules.specs.ReadWrite.{readWrite}
-use Rattle.rules.proofs.Tests.{by-bool, same, by-or, and-left, and-right, or-left, or-right, any-at, any-by, any-cong}
+use Rattle.rules.proofs.Tests.{by-bool, and-left, and-right}
 use Rattle.bench.specs.declared.Bench.{Bench}
 use Rattle.views.specs.View.{view}
-use Rattle.views.specs.Owners.{standsAt}
+use Rattle.views.specs.Owners.{Standing}
 use Rattle.views.specs.Soundness.{soundWith}
 use Rattle.views.proofs.Words.{sound-with, arrays-long}
 use Rattle.rules.specs.Frames.{framed}
 use Rattle.steps.specs.Arrays.{Arrays, lent, viewOf, readSets, writeSets, SoundLists, SteppedTo}
 use Rattle.steps.specs.Steps as steps
-use Rattle.steps.proofs.Halves.{read-set-at, write-set-at}
+use Rattle.steps.proofs.Standing.{standing-members, standing-halves}
 use Rattle.steps.proofs.RequestLaws.{request-steps}
 use Rattle.tables.proofs.Steps.{answer-unsound, step-refused}
-use Rattle.rules.proofs.Frames.{request-of}
+use Rattle.rules.proofs.Frames.{request-of, unframed}
 use Rattle.image.specs.Image.{isImage, imageView, recordOf, StoredAs, unsoundAnswer, Requested}
 
 -- what the test of the lengths found, on each way on from it
@@ -76,25 +76,13 @@ pub none-requested : (q : Option Request) (actions owners : List ℕ) → isImag
 none-requested q actions owners other =
     record { bytesLong = refl; wordsLong = refl; outcome = λ image. absurd (false≢true (sym other ∙ image)); noImage = λ no. (refl, refl, refl) }
 
--- a code above 6 is no request's
-no-code : (code x y : ℕ) → 6 < code → framed code x y ≡ none
-no-code code x y high =
-    rw (
-      ne-eqb code 1 (λ e. absurd (omega arith)),
-      ne-eqb code 2 (λ e. absurd (omega arith)),
-      ne-eqb code 3 (λ e. absurd (omega arith)),
-      ne-eqb code 4 (λ e. absurd (omega arith)),
-      ne-eqb code 5 (λ e. absurd (omega arith)),
-      ne-eqb code 6 (λ e. absurd (omega arith)),
-    )
-
 -- what a bench that isn't sound answers
 unsound-answered : (b : rules.Bench) (code x y : ℕ) → sound readWrite b ≡ false →
     _≡_ {A = Outcome} (record { answer = unsoundAnswer code; next = b }) (answered readWrite b (framed code x y))
 unsound-answered b code x y broken =
     by-bool (eqb code 0) (λ t. rw (t, eqb-true code 0 t))
-    (λ f. by-bool (ltb 6 code) (λ t. rw (f, t, no-code code x y (ltb-true 6 code t)))
-    (λ g. let found = request-of code x y (eqb-false code 0 f) (ltb-false 6 code g) in
+    (λ f. by-bool (ltb 7 code) (λ t. rw (f, t, unframed code x y (ltb-true 7 code t)))
+    (λ g. let found = request-of code x y (eqb-false code 0 f) (ltb-false 7 code g) in
     rw (f, g, found .1) (step-refused readWrite b (found .0) 7 (answer-unsound readWrite b (found .0) false (sym broken) refl) (λ z. omega arith))))
 
 module _ (actions owners : List ℕ) (image : isImage actions owners ≡ true) where
@@ -107,31 +95,9 @@ module _ (actions owners : List ℕ) (image : isImage actions owners ≡ true) w
 
 -- ---- the numbers that stand in a set
 
-any-halves : (n : ℕ) (f : ℕ → Bool) → any (n + n) f ≡ any n (λ i. f i || f (n + i))
-any-halves n f =
-    same (any (n + n) f) (any n (λ i. f i || f (n + i)))
-    (λ h.
-    let a = any-at (n + n) f h in
-    let l = a .1 in
-    by-bool (ltb (a .0) n)
-    (λ t. any-by n (λ i. f i || f (n + i)) (a .0) (ltb-true (a .0) n t) (or-left (f (a .0)) (f (n + a .0)) (a .2)))
-    (λ t.
-    let high = ltb-false (a .0) n t in
-    let back : n + (a .0 - n) ≡ a .0 = omega arith in
-    any-by n (λ i. f i || f (n + i)) (a .0 - n) (omega arith) (or-right (f (a .0 - n)) (f (n + (a .0 - n))) (ap f back ∙ a .2))))
-    (λ h.
-    let a = any-at n (λ i. f i || f (n + i)) h in
-    let l = a .1 in
-    by-or (f (a .0)) (f (n + a .0)) (a .2) (λ x. any-by (n + n) f (a .0) (omega arith) x) (λ x. any-by (n + n) f (n + a .0) (omega arith) x))
-
 -- those of all words are those of the read sets and the write sets
-standing-halves : (owners : List ℕ) (numbers : ℕ) → length owners ≡ 256 → ((k : ℕ) → member numbers k ≡ any (length owners) (λ i. member (getD owners i 0) k)) → (k : ℕ) → member numbers k ≡ any 128 (standsAt (readSets owners) (writeSets owners) k)
-standing-halves owners numbers long gathered k =
-    gathered k
-    ∙ rw long
-    (any-halves 128 (λ i. member (getD owners i 0) k)
-    ∙ any-cong 128 (λ i. member (getD owners i 0) k || member (getD owners (128 + i) 0) k) (standsAt (readSets owners) (writeSets owners) k)
-    (λ i l. rw (read-set-at owners i l, write-set-at owners i l)))
+standing-read : (owners : List ℕ) (numbers : ℕ) → length owners ≡ 256 → ((k : ℕ) → member numbers k ≡ any (length owners) (λ i. member (getD owners i 0) k)) → Standing (readSets owners) (writeSets owners) numbers
+standing-read owners numbers long gathered k = gathered k ∙ sym (standing-members owners k) ∙ standing-halves owners long k
 
 -- Parents and states that were read out of an image, whose words are used in place.
 pub record ReadOut (actions owners parents states : List ℕ) : Type 0 where
@@ -151,7 +117,7 @@ module _ {actions owners parents states : List ℕ} (out : ReadOut actions owner
 
   -- what the soundness test finds
   pub read-sound : (numbers : ℕ) {ok : Bool} → ((k : ℕ) → member numbers k ≡ any (length owners) (λ i. member (getD owners i 0) k)) → ok ≡ soundWith parents states numbers → ok ≡ sound readWrite (viewOf before)
-  read-sound numbers gathered e = e ∙ sound-with parents states (readSets owners) (writeSets owners) numbers (standing-halves owners numbers (long .1) gathered)
+  read-sound numbers gathered e = e ∙ sound-with parents states (readSets owners) (writeSets owners) numbers (standing-read owners numbers (long .1) gathered)
 
   pub read-arrays : (ok : Bool) → ok ≡ sound readWrite (viewOf before) → not ok ≡ false → SoundLists before
   read-arrays ok e t =

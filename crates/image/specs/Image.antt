@@ -37,7 +37,7 @@ pub record StoredAs (b : Bench) (actions owners actions' owners' : List ℕ) : T
 
 -- What a code is answered on an image that isn't sound: 7 where it is a request's, else 8.
 abbrev pub unsoundAnswer : ℕ → ℕ
-unsoundAnswer code = if eqb code 0 then 8 else if ltb 6 code then 8 else 7
+unsoundAnswer code = if eqb code 0 then 8 else if ltb 7 code then 8 else 7
 
 -- A request is made, or none where the code is no request's: the answer and the image after it are those of the rules. Slices that are no image are
 -- answered 7 and stay as they were. Lengths stay.

@@ -6,6 +6,7 @@ use copies::words_from;
 use marks::answers::ACCEPTED;
 use marks::answers::MALFORMED;
 use marks::answers::UNSOUND;
+use marks::codes::QUIET;
 use soundness::sound;
 use soundness::standing;
 use steps::engine;
@@ -65,14 +66,14 @@ fn put_owners<'a>(owners: &mut [u64], reads: &'a [u64; 128], writes: &'a [u64; 1
     put_words(owners, 128, writes);
 }
 
-// The answer to a code on an image that isn't sound.
+// The answer to a code on an image that isn't sound: quiet's is the highest that a request has.
 fn unsound_answer(code: u8) -> u8
     ensures { λ r. ⌜ r ≡ unsoundAnswer code ⌝ }
 {
     if code == 0 {
         return MALFORMED;
     }
-    if code > 6 {
+    if code > QUIET {
         return MALFORMED;
     }
     UNSOUND

@@ -15,8 +15,7 @@ use Rattle.sets.proofs.Laws.{member-empty, member-with, member-union, member-di
 use Rattle.rules.specs.Bench.{isFree}
 use Rattle.rules.proofs.Tests.{by-bool, clash, refuted, and-right, by-or, or-left, or-right}
 use Rattle.rules.proofs.Facts.{sound-facts}
-use Rattle.tables.specs.Table.{stateOf}
-use Rattle.tables.specs.Tree.{tree, treeShape}
+use Rattle.tables.specs.Tree.{tree, treeShape, treeStateOf}
 use Rattle.tables.specs.Families.{parentIn}
 use Rattle.tables.proofs.Bytes.{none-byte}
 use Rattle.tables.proofs.ViewLaws.{child-byte}
@@ -153,20 +152,20 @@ module _ (index : List ℕ) (a : ℕ) where
 
 module _ (parents states : List ℕ) (ok : SoundTree parents states) (long : length parents ≡ 64) (index : List ℕ) (h : IndexOf (tree parents states) index) where
   -- what stands at the place of a number that isn't free: its children, whose bytes say so
-  child-of : (p k : ℕ) → p < 64 → k < 64 → isFree (stateOf (getD states p 0)) ≡ false → member (getD index p 0) k ≡ eqb (getD parents k 0) (suc p)
+  child-of : (p k : ℕ) → p < 64 → k < 64 → isFree (treeStateOf (getD states p 0)) ≡ false → member (getD index p 0) k ≡ eqb (getD parents k 0) (suc p)
   child-of p k lp lk u =
       ap (λ word. member word k) (child-read (own-parts index (h .long)) p lp)
       ∙ h .sets .ofChildren .each p k lp lk u
       ∙ rw (← add-one p) (child-byte (getD parents k 0) p)
 
-  module _ (a : ℕ) (in-use : isFree (stateOf (getD states a 0)) ≡ false) where
+  module _ (a : ℕ) (in-use : isFree (treeStateOf (getD states a 0)) ≡ false) where
     -- a descendant of a number that isn't free isn't free: it has a parent
-    descends-in-use : (k : ℕ) → k < 64 → descends parents a k ≡ true → isFree (stateOf (getD states k 0)) ≡ false
+    descends-in-use : (k : ℕ) → k < 64 → descends parents a k ≡ true → isFree (treeStateOf (getD states k 0)) ≡ false
     descends-in-use k lk d =
-        refuted (isFree (stateOf (getD states k 0)))
+        refuted (isFree (treeStateOf (getD states k 0)))
         (λ free. let top = none-byte (getD parents k 0) (sound-facts (treeShape 64) (tree parents states) ok k lk .freeHasNoParent free) in
         let e = eqb-true k a (sym (descends-top 64 parents (states, ok) a k top) ∙ d) in
-        clash (isFree (stateOf (getD states k 0))) free (rw e in-use))
+        clash (isFree (treeStateOf (getD states k 0))) free (rw e in-use))
 
     descends-handed : HandedDown index a (descends parents a)
     descends-handed =

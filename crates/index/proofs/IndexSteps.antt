@@ -1,4 +1,4 @@
--- The index after each step on a sound bench: a refused request and an ask leave it as it was, and what is stored when an action opens or ends makes it the
+-- The index after each step on a sound bench: a refused request, an ask and a quiet leave it as it was, and what is stored when an action opens or ends makes it the
 -- index of the next bench. Assumes nothing.
 use mathlib.Core.Path.{_≡_, _∙_, ap}
 use mathlib.Core.Bool.{and-true}
@@ -10,14 +10,14 @@ use lib.ListN.{getD, set}
 use lib.Seq.{set-getD}
 use Rattle.sets.specs.Sets.{member, with, difference}
 use Rattle.sets.proofs.Laws.{member-empty, member-difference, same-members, difference-fits, below-pow}
-use Rattle.rules.specs.Requests.{Request, openTop, openSub, ask}
+use Rattle.rules.specs.Requests.{Request, openTop, openSub, ask, quiet}
 use Rattle.tables.specs.Tree.{tree}
 use Rattle.views.specs.View.{arrays, layout}
 use lib.Dec.{eqb}
 use Rattle.views.proofs.Ends.{ending-code}
 use Rattle.views.specs.Arrays.{SoundArrays, Stepped, FreedIn}
 use Rattle.rules.specs.Frames.{framed}
-use Rattle.tables.proofs.IndexKept.{refused-kept, ask-kept, open-top-kept, open-sub-kept, end-top-kept, end-sub-kept}
+use Rattle.tables.proofs.IndexKept.{refused-kept, ask-kept, quiet-kept, open-top-kept, open-sub-kept, end-top-kept, end-sub-kept}
 use Rattle.index.specs.Tables.{childSets, lineSets, runningSet, IndexOf}
 use Rattle.index.specs.Kept.{opened, openedTop, adopted, openedSub, stopped, left}
 use Rattle.index.proofs.IndexParts.{own-parts, index-by, child-read, line-read, child-put, line-put, running-put}
@@ -42,7 +42,12 @@ module _ {parents states reads writes parents' states' reads' writes' : List ℕ
     pub asked-indexed : (m a i : ℕ) → Stepped (some (ask m a i)) parents states reads writes answer parents' states' reads' writes' → IndexOf (tree parents' states') index
     asked-indexed m a i st =
         index-by (own-parts index (h .long))
-        (ask-kept layout (arrays parents states reads writes) (arrays parents' states' reads' writes') answer (childSets index) (lineSets index) (runningSet index) (h .sets) pre m a i st)
+        (ask-kept layout (arrays parents states reads writes) (arrays parents' states' reads' writes') answer (childSets index) (lineSets index) (runningSet index) (h .sets) m a i st)
+
+    pub quieted-indexed : (a i : ℕ) → Stepped (some (quiet a i)) parents states reads writes answer parents' states' reads' writes' → IndexOf (tree parents' states') index
+    quieted-indexed a i st =
+        index-by (own-parts index (h .long))
+        (quiet-kept layout (arrays parents states reads writes) (arrays parents' states' reads' writes') answer (childSets index) (lineSets index) (runningSet index) (h .sets) pre a i st)
 
     pub top-indexed : (n : ℕ) → Stepped (some (openTop n)) parents states reads writes answer parents' states' reads' writes' → answer ≡ 0 → IndexOf (tree parents' states') (openedTop (n % 64) index)
     top-indexed n st z =
@@ -61,15 +66,15 @@ module _ {parents states reads writes parents' states' reads' writes' : List ℕ
         (open-sub-kept layout (arrays parents states reads writes) (arrays parents' states' reads' writes') answer (childSets index) (lineSets index) (runningSet index) (h .sets) pre n p st z))
 
     -- the end of an action, by its code; `gone` has the family where one is freed
-    module _ (code x y : ℕ) (above : 4 < code) (st : Stepped (framed code x y) parents states reads writes answer parents' states' reads' writes') (z : answer ≡ 0) (gone : ℕ) (freed : FreedIn parents states code x gone) where
+    module _ (code x y : ℕ) (above : 4 < code) (loud : code ≡ 7 → ⊥) (st : Stepped (framed code x y) parents states reads writes answer parents' states' reads' writes') (z : answer ≡ 0) (gone : ℕ) (freed : FreedIn parents states code x gone) where
       pub top-end-indexed : getD parents (x % 64) 0 ≡ 0 → IndexOf (tree parents' states') (stopped gone (x % 64) index)
       top-end-indexed top =
           index-by (running-put (own-parts index (h .long)) _)
-          (end-top-kept layout _ _ _ (childSets index) (lineSets index) (runningSet index) (h .sets) pre (eqb code 6) x (ending-code code x y above st z) z gone top freed)
+          (end-top-kept layout _ _ _ (childSets index) (lineSets index) (runningSet index) (h .sets) pre (eqb code 6) x (ending-code code x y above loud st z) z gone top freed)
 
       pub sub-end-indexed : (getD parents (x % 64) 0 ≡ 0 → ⊥) → getD parents (x % 64) 0 - 1 < 64 → IndexOf (tree parents' states') (left gone (x % 64) (getD parents (x % 64) 0 - 1) index)
       sub-end-indexed sub known =
           let is-stopped = running-put (own-parts index (h .long)) (difference (runningSet index) (with 64 gone (x % 64))) in
           index-by (child-put is-stopped (getD parents (x % 64) 0 - 1) _ known)
           (rw (child-read is-stopped (getD parents (x % 64) 0 - 1) known)
-          (end-sub-kept layout _ _ _ (childSets index) (lineSets index) (runningSet index) (h .sets) pre (eqb code 6) x (ending-code code x y above st z) z gone sub freed))
+          (end-sub-kept layout _ _ _ (childSets index) (lineSets index) (runningSet index) (h .sets) pre (eqb code 6) x (ending-code code x y above loud st z) z gone sub freed))

@@ -1,10 +1,10 @@
--- A request on any arrays and index is, by its code, a read or a write, an open, or a commit or an abort. Assumes nothing.
+-- A request on any arrays and index is, by its code, a read or a write, an open, a quiet, or a commit or an abort. Assumes nothing.
 use mathlib.Core.Path.{_≡_}
 use mathlib.Core.Bool.{Bool, true, false, _||_}
 use mathlib.Core.List.{[]}
 use Prim.Native.Nat.{ℕ, _%_, _≤_, _<_, _^_}
 use native.Mathlib.Omega.{arith}
-use borrow.Author.Tests.{lt-ltb, le-ltb}
+use borrow.Author.Tests.{lt-ltb, le-ltb, ne-eqb}
 use lib.Dec.{eqb}
 use lib.ListN.{getD}
 use Rattle.sets.specs.Sets.{meet}
@@ -12,8 +12,8 @@ use Rattle.rules.specs.Tests.{if_then_else_}
 use Rattle.rules.proofs.Tests.{by-bool}
 use Rattle.rules.proofs.Frames.{ask-code}
 use Rattle.steps.specs.Arrays.{lent}
-use Rattle.steps.specs.Steps.{Asked, Opened}
-use Rattle.steps.proofs.Steps.{with-owners}
+use Rattle.steps.specs.Steps.{Asked, Opened, Quieted}
+use Rattle.steps.proofs.Steps.{with-owners, with-parents}
 use Rattle.index.specs.Tables.{Table, runningSet, arraysIn}
 use Rattle.index.specs.Kept.{busyBy, lineBy, openedIndex, EndKept, RequestKept}
 
@@ -25,7 +25,7 @@ module _ {before after : Table} {answer : ℕ} (code x y : ℕ) (fits : runningS
       record {
         runningFits = fits;
         gone = 0;
-        freed = λ above. absurd (omega arith);
+        freed = λ above other. absurd (omega arith);
         arrays = rw asks step;
         index = rw (asks, same) (by-bool (eqb answer 0) (λ t. rw t) (λ t. rw t));
       }
@@ -36,17 +36,28 @@ module _ {before after : Table} {answer : ℕ} (code x y : ℕ) (fits : runningS
       record {
         runningFits = fits;
         gone = 0;
-        freed = λ above. absurd (omega arith);
+        freed = λ above other. absurd (omega arith);
         arrays = rw (other, lt-ltb code 3 below, same) (with-owners (before .owners) code x y step);
         index = rw (other, lt-ltb code 3 below) index;
       }
 
-  pub kept-end : (eqb code 3 || eqb code 4) ≡ false → 3 ≤ code → EndKept code x (busyBy (before .index) x) before answer after → RequestKept code x y before answer after
-  kept-end other above ended =
+  pub kept-quiet : code ≡ 7 → Quieted x y (lent [] (before .states) (before .owners)) answer (lent [] (after .states) (after .owners)) → after .parents ≡ before .parents →
+      after .index ≡ before .index → RequestKept code x y before answer after
+  kept-quiet seven step sameParents same =
+      record {
+        runningFits = fits;
+        gone = 0;
+        freed = λ above other. absurd (other seven);
+        arrays = rw (seven, sameParents) (with-parents (before .parents) x y step);
+        index = rw (seven, same) (by-bool (eqb answer 0) (λ t. rw t) (λ t. rw t));
+      }
+
+  pub kept-end : (eqb code 3 || eqb code 4) ≡ false → 3 ≤ code → (code ≡ 7 → ⊥) → EndKept code x (busyBy (before .index) x) before answer after → RequestKept code x y before answer after
+  kept-end other above loud ended =
       record {
         runningFits = fits;
         gone = ended .gone;
-        freed = λ ends. ended .freed;
-        arrays = rw (other, le-ltb code 3 above) (ended .arrays);
-        index = rw (other, le-ltb code 3 above) (ended .index);
+        freed = λ ends not-quiet. ended .freed;
+        arrays = rw (other, le-ltb code 3 above, ne-eqb code 7 loud) (ended .arrays);
+        index = rw (other, le-ltb code 3 above, ne-eqb code 7 loud) (ended .index);
       }

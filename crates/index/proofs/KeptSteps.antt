@@ -20,13 +20,15 @@ use Rattle.views.specs.View.{arrays, layout}
 use Rattle.views.specs.Arrays.{FreedIn}
 use Rattle.views.proofs.Ends.{second-code}
 use Rattle.steps.specs.Arrays.{readSets, writeSets, SteppedTo}
-use Rattle.steps.proofs.Laws.{opened-steps, end-steps}
+use Rattle.steps.proofs.Laws.{opened-steps}
+use Rattle.steps.proofs.EndLaws.{end-steps}
+use Rattle.steps.proofs.QuietLaws.{quieted-steps}
 use Rattle.steps.proofs.AskLaws.{ask-steps}
 use Rattle.index.specs.Tables.{Table, childSets, lineSets, runningSet, arraysIn, IndexOf, SoundTable, TableStepped}
 use Rattle.index.specs.Kept.{busyBy, lineBy, keptIndex, RequestKept}
 use Rattle.index.proofs.IndexParts.{own-parts, child-read, line-read}
 use Rattle.index.proofs.Families.{freed-known}
-use Rattle.index.proofs.IndexSteps.{nobody-left, refused-indexed, asked-indexed, top-indexed, sub-indexed, top-end-indexed, sub-end-indexed}
+use Rattle.index.proofs.IndexSteps.{nobody-left, refused-indexed, asked-indexed, quieted-indexed, top-indexed, sub-indexed, top-end-indexed, sub-end-indexed}
 
 module _ {before after : Table} {answer : ℕ} (ok : SoundTable before) (code x y : ℕ) (kept : RequestKept code x y before answer after) where
   -- ---- what the index tells
@@ -47,8 +49,8 @@ module _ {before after : Table} {answer : ℕ} (ok : SoundTable before) (code x 
       rw (line-read (own-parts (before .index) (ok .indexed .long)) (x % 64) known)
       (knows-line 64 (before .parents) (before .states) sound (childSets (before .index)) (lineSets (before .index)) (runningSet (before .index)) (ok .indexed .sets) x)
 
-  family : 4 < code → FreedIn (before .parents) (before .states) code x (kept .gone)
-  family above = freed-known (before .parents) (before .states) sound (ok .lists .table .long .parentsLong) (before .index) (ok .indexed) code x (kept .gone) (kept .freed above)
+  family : 4 < code → (code ≡ 7 → ⊥) → FreedIn (before .parents) (before .states) code x (kept .gone)
+  family above loud = freed-known (before .parents) (before .states) sound (ok .lists .table .long .parentsLong) (before .index) (ok .indexed) code x (kept .gone) (kept .freed above loud)
 
   -- a parent's byte is 64 at most
   low : getD (before .parents) (x % 64) 0 ≤ 64
@@ -86,21 +88,28 @@ module _ {before after : Table} {answer : ℕ} (ok : SoundTable before) (code x 
       (λ v. let two = second-code code x y below (eqb-false code 1 v) (step .stepped) z in
       rw v (sub-indexed (ok .indexed) (ok .lists .table) x y (rw two at (step .stepped)) z))))
 
-  ends : (eqb code 3 || eqb code 4) ≡ false → ltb code 3 ≡ false → TableStepped (framed code x y) before answer after
-  ends t u =
+  quiets : eqb code 7 ≡ true → TableStepped (framed code x y) before answer after
+  quiets v =
+      let seven = eqb-true code 7 v in
+      let step = quieted-steps (ok .lists) x y (rw seven at (kept .arrays)) in
+      with-index (rw seven step) (λ z. rw seven (quieted-indexed (ok .indexed) (ok .lists .table) x y (step .stepped)))
+
+  ends : (eqb code 3 || eqb code 4) ≡ false → ltb code 3 ≡ false → eqb code 7 ≡ false → TableStepped (framed code x y) before answer after
+  ends t u s =
       let above = end-code code t (ltb-false code 3 u) in
       let up = getD (before .parents) (x % 64) 0 in
-      let freed = family above in
-      let step = end-steps (ok .lists) code (busyBy (before .index) x) (kept .gone) x y above child (freed .family) (rw (t, u) at (kept .arrays)) in
+      let loud = eqb-false code 7 s in
+      let freed = family above loud in
+      let step = end-steps (ok .lists) code (busyBy (before .index) x) (kept .gone) x y above loud child (freed .family) (rw (t, u, s) at (kept .arrays)) in
       let low-up = low in
       with-index step
-      (λ z. let top = top-end-indexed (ok .indexed) (ok .lists .table) code x y above (step .stepped) z (kept .gone) freed in
-      let sub = sub-end-indexed (ok .indexed) (ok .lists .table) code x y above (step .stepped) z (kept .gone) freed in
-      rw (t, u)
+      (λ z. let top = top-end-indexed (ok .indexed) (ok .lists .table) code x y above loud (step .stepped) z (kept .gone) freed in
+      let sub = sub-end-indexed (ok .indexed) (ok .lists .table) code x y above loud (step .stepped) z (kept .gone) freed in
+      rw (t, u, s)
       (by-bool (eqb up 0) (λ v. let none = eqb-true up 0 v in rw (v, and-false (eqb code 6)) (top none))
       (λ v. let some = eqb-false up 0 v in
       by-bool (eqb code 6) (λ w. rw (w, v, le-leb up 64 low) (sub some (omega arith)))
       (λ w. rw w (rw (nobody-left (kept .gone) (x % 64) (up - 1) (before .index) (freed .nobody (rw (w, v)))) at (sub some (omega arith)))))))
 
   pub kept-steps : TableStepped (framed code x y) before answer after
-  kept-steps = by-bool (eqb code 3 || eqb code 4) asks (λ t. by-bool (ltb code 3) (opens t) (ends t))
+  kept-steps = by-bool (eqb code 3 || eqb code 4) asks (λ t. by-bool (ltb code 3) (opens t) (λ u. by-bool (eqb code 7) quiets (ends t u)))

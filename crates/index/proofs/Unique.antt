@@ -4,7 +4,7 @@ use mathlib.Core.Bool.{true, false, _||_}
 use mathlib.Core.List.{List}
 use Prim.Native.Nat.{ℕ, _+_, _-_, _%_, _≤_, _<_, _^_}
 use native.Mathlib.Omega.{arith}
-use borrow.Author.Tests.{ltb-true, ltb-false}
+use borrow.Author.Tests.{eqb-true, eqb-false, ltb-true, ltb-false}
 use lib.Dec.{eqb, ltb}
 use lib.ListN.{length, getD, take, drop, length-take, List·getD-eq-default}
 use lib.Seq.{ext-getD, getD-take, getD-drop}
@@ -31,21 +31,24 @@ freed-unique code x parents index one other f g =
     (λ t. f .nobody t ∙ sym (g .nobody t))
 
 -- who is freed matters to commits and aborts alone
-module _ (code x y : ℕ) (before : Table) (one other : ℕ) (same : 4 < code → one ≡ other) where
+module _ (code x y : ℕ) (before : Table) (one other : ℕ) (same : 4 < code → (code ≡ 7 → ⊥) → one ≡ other) where
   same-arrays : keptArrays code x y one before ≡ keptArrays code x y other before
   same-arrays =
       by-bool (eqb code 3 || eqb code 4) (λ t. rw t)
-      (λ t. by-bool (ltb code 3) (λ u. rw (t, u)) (λ u. rw (same (end-code code t (ltb-false code 3 u)))))
+      (λ t. by-bool (ltb code 3) (λ u. rw (t, u))
+      (λ u. by-bool (eqb code 7) (λ v. rw (eqb-true code 7 v)) (λ v. rw (same (end-code code t (ltb-false code 3 u)) (eqb-false code 7 v)))))
 
   same-index : keptIndex code x y one before ≡ keptIndex code x y other before
   same-index =
       by-bool (eqb code 3 || eqb code 4) (λ t. rw t)
-      (λ t. by-bool (ltb code 3) (λ u. rw (t, u)) (λ u. rw (same (end-code code t (ltb-false code 3 u)))))
+      (λ t. by-bool (ltb code 3) (λ u. rw (t, u))
+      (λ u. by-bool (eqb code 7) (λ v. rw (eqb-true code 7 v)) (λ v. rw (same (end-code code t (ltb-false code 3 u)) (eqb-false code 7 v)))))
 
 pub kept-unique : (code x y : ℕ) (before : Table) (answer answer' : ℕ) (after after' : Table) → RequestKept code x y before answer after → RequestKept code x y before answer' after' →
     (answer ≡ answer') × (after ≡ after')
 kept-unique code x y before answer answer' after after' f g =
-    let gone : 4 < code → f .gone ≡ g .gone = (λ above. freed-unique code x (before .parents) (before .index) (f .gone) (g .gone) (f .freed above) (g .freed above)) in
+    let gone : 4 < code → (code ≡ 7 → ⊥) → f .gone ≡ g .gone =
+    (λ above loud. freed-unique code x (before .parents) (before .index) (f .gone) (g .gone) (f .freed above loud) (g .freed above loud)) in
     let both = one-result (keptAnswer code x y before) (keptArrays code x y (g .gone) before) (arraysIn before) (rw (same-arrays code x y before (f .gone) (g .gone) gone) at (f .arrays)) (g .arrays) in
     let index : after .index ≡ after' .index = f .index ∙ rw (same-index code x y before (f .gone) (g .gone) gone, both .0) (sym (g .index)) in
     (both .0, λ i. record { parents = both .1 i .parents; states = both .1 i .states; owners = both .1 i .owners; index = index i })

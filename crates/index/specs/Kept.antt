@@ -11,7 +11,7 @@ use Rattle.rules.specs.Tests.{if_then_else_}
 use Rattle.steps.specs.Arrays.{Arrays}
 use Rattle.steps.specs.Rows.{openAnswer, endAnswer}
 use Rattle.steps.specs.Changes as changes
-use Rattle.steps.specs.Steps.{Took, Ended, askAnswer}
+use Rattle.steps.specs.Steps.{Took, Ended, askAnswer, quietAnswer}
 use Rattle.index.specs.Tables.{Table, runningSet, arraysIn}
 use Rattle.index.specs.Families.{FreedBy}
 
@@ -73,28 +73,33 @@ pub record EndKept (code x : ℕ) (busy : Bool) (before : Table) (answer : ℕ) 
   pub arrays : Ended code busy gone x (arraysIn before) answer (arraysIn after)
   pub index : after .index ≡ (if eqb answer 0 then endedIndex code x (getD (before .parents) (x % 64) 0) gone (before .index) else before .index)
 
--- what is said of a code: one thing of reads and writes, one of opens, and one of all others
-abbrev pub byCode : {A : Type 0} → ℕ → A → A → A → A
-byCode code asking opening ending = if eqb code 3 || eqb code 4 then asking else if ltb code 3 then opening else ending
+-- what is said of a code: one thing of reads and writes, one of opens, one of quiet, and one of all others
+abbrev pub byCode : {A : Type 0} → ℕ → A → A → A → A → A
+byCode code asking opening quieting ending =
+    if eqb code 3 || eqb code 4 then asking
+    else if ltb code 3 then opening
+    else if eqb code 7 then quieting
+    else ending
 
--- the answer to a request, and the arrays and the index where that is 0 and `gone` are to be freed
+-- the answer to a request, and the arrays and the index where that is 0 and `gone` are to leave the tree
 abbrev pub keptAnswer : ℕ → ℕ → ℕ → Table → ℕ
 keptAnswer code x y t =
     byCode code (askAnswer (eqb code 4) (busyBy (t .index) x) (lineBy (t .index) x) x y (arraysIn t)) (openAnswer code x y (t .states))
-    (endAnswer code (busyBy (t .index) x) x (t .states))
+    (quietAnswer x y (arraysIn t)) (endAnswer code (busyBy (t .index) x) x (t .states))
 
 abbrev pub keptArrays : ℕ → ℕ → ℕ → ℕ → Table → Arrays
 keptArrays code x y gone t =
-    byCode code (changes.asked (eqb code 4) x y (arraysIn t)) (changes.opened code x y (arraysIn t)) (changes.ended code gone x (arraysIn t))
+    byCode code (changes.asked (eqb code 4) x y (arraysIn t)) (changes.opened code x y (arraysIn t)) (changes.quieted x y (arraysIn t))
+    (changes.ended code gone x (arraysIn t))
 
 abbrev pub keptIndex : ℕ → ℕ → ℕ → ℕ → Table → List ℕ
 keptIndex code x y gone t =
-    byCode code (t .index) (openedIndex code x y (t .index)) (endedIndex code x (getD (t .parents) (x % 64) 0) gone (t .index))
+    byCode code (t .index) (openedIndex code x y (t .index)) (t .index) (endedIndex code x (getD (t .parents) (x % 64) 0) gone (t .index))
 
 -- A request by its code and two numbers. The index is one of words of 64 bits, and so are its running numbers.
 pub record RequestKept (code x y : ℕ) (before : Table) (answer : ℕ) (after : Table) : Type 0 where
   pub runningFits : runningSet (before .index) < 2 ^ 64
   pub gone : ℕ
-  pub freed : 4 < code → FreedBy code x (before .parents) (before .index) gone
+  pub freed : 4 < code → (code ≡ 7 → ⊥) → FreedBy code x (before .parents) (before .index) gone
   pub arrays : Took (keptAnswer code x y before) (keptArrays code x y gone before) (arraysIn before) answer (arraysIn after)
   pub index : after .index ≡ (if eqb answer 0 then keptIndex code x y gone before else before .index)

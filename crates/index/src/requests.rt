@@ -7,9 +7,11 @@ use marks::answers::ACCEPTED;
 use marks::bytes::wide;
 use marks::codes::ABORT;
 use marks::codes::OPEN_TOP;
+use marks::codes::QUIET;
 use marks::codes::READ;
 use marks::codes::WRITE;
 use steps::ACTIONS;
+use steps::draining::quiet;
 use steps::engine::ask;
 use steps::engine::end;
 use steps::engine::open;
@@ -94,7 +96,8 @@ fn end_indexed(
     answer
 }
 
-// The request of a frame's code and two numbers; a code that is none of the six is malformed. Reads and writes come first: they are most of a trace.
+// The request of a frame's code and two numbers; a code that is none of the seven is malformed. Reads and writes come first: they are most of a trace. Quiet
+// leaves the index as it was: who drains has left the tree.
 pub fn request(
     parents: &mut [u8; 64],
     states: &mut [u8; 64],
@@ -126,6 +129,9 @@ pub fn request(
     }
     if code < READ {
         return open_indexed(parents, states, index, code, x, y);
+    }
+    if code == QUIET {
+        return quiet(states, owners, x, y);
     }
     end_indexed(parents, states, owners, index, busy, code, x)
 }

@@ -7,8 +7,8 @@ use Prim.Native.Nat.{ℕ, _≤_, _<_}
 use native.Mathlib.Omega.{arith}
 use Rattle.rules.specs.Bench as rules
 use Rattle.rules.specs.Bench.{isFree, isRunning}
-use Rattle.rules.specs.Owners.{granted, hasRunningChild}
-use Rattle.rules.specs.Requests.{Request, openTop, openSub, ask, commit, abort}
+use Rattle.rules.specs.Owners.{granted, hasRunningChild, drainsUnder, standAt}
+use Rattle.rules.specs.Requests.{Request, openTop, openSub, ask, commit, abort, quiet}
 use Rattle.rules.specs.Answers.{tooHigh, noInstrument, row, rowBy, answerOf, step, answered}
 use Rattle.rules.specs.Sound.{sound}
 use Rattle.rules.specs.ReadWrite.{readWrite}
@@ -46,6 +46,10 @@ row-small b (commit a) =
 row-small b (abort a) =
     either-small (tooHigh readWrite a) 1 _ (omega arith)
     (either-small (not (isRunning (b .state a))) 4 0 (omega arith) (omega arith))
+row-small b (quiet a i) =
+    either-small (tooHigh readWrite a) 1 _ (omega arith)
+    (either-small (noInstrument readWrite i) 2 _ (omega arith)
+    (either-small (not (drainsUnder b a a) || not (standAt readWrite b (drainsUnder b a) i)) 10 0 (omega arith) (omega arith)))
 
 answered-small : (b : rules.Bench) (r : Option Request) → answered readWrite b r .answer < 16
 unfolding step answerOf
@@ -76,7 +80,7 @@ module _ {ok : Bool} {parents states reads writes : List ℕ} (known : KnownArra
     pub malformed-ends : code ≡ 0 → LineEnded ok held parents states reads writes 8 parents states reads writes
     malformed-ends z = record { outcome = rw (← e, z); table = known }
 
-    pub unsound-ends : ok ≡ false → (code ≡ 0 → ⊥) → code ≤ 6 → LineEnded ok held parents states reads writes 7 parents states reads writes
+    pub unsound-ends : ok ≡ false → (code ≡ 0 → ⊥) → code ≤ 7 → LineEnded ok held parents states reads writes 7 parents states reads writes
     unsound-ends t nonzero small =
         let b : rules.Bench = view parents states reads writes in
         let found = request-of code x y nonzero small in

@@ -6,7 +6,7 @@ use Prim.Native.Nat.{ℕ}
 use Prim.Native.String.{String}
 use lib.ListN.{getD}
 use Rattle.rules.specs.Bench as rules
-use Rattle.rules.specs.Requests.{Request, openTop, openSub, commit, abort}
+use Rattle.rules.specs.Requests.{Request, openTop, openSub, commit, abort, quiet}
 use Rattle.rules.specs.Answers.{answers, answered}
 use Rattle.rules.specs.ReadWrite.{readWrite, read, write}
 use Rattle.rules.specs.Sessions.{sessions}
@@ -14,7 +14,7 @@ use Rattle.rules.proofs.Sessions.{requestsOf, answersOf, sessions-hold}
 use Rattle.lines.specs.Bytes.{bytesOf}
 use Rattle.lines.specs.Lines.{linesOf, requestOf, answerText, writtenBy, written, leftBy, outputBy, outputOf}
 
--- ---- the whole case
+-- ---- the whole case, in which since order 2 number 3 drains at the end
 
 -- what is written for requests that lines may have
 played : rules.Bench → List (Option Request) → List ℕ
@@ -49,7 +49,7 @@ wholeRequests =
     ∷ commit 1
     ∷ []
 
-whole-answers : answers readWrite rules.empty wholeRequests ≡ 0 ∷ 0 ∷ 0 ∷ 0 ∷ 6 ∷ 0 ∷ 0 ∷ 0 ∷ 5 ∷ 0 ∷ 0 ∷ 0 ∷ []
+whole-answers : answers readWrite rules.empty wholeRequests ≡ 0 ∷ 0 ∷ 0 ∷ 0 ∷ 6 ∷ 0 ∷ 0 ∷ 0 ∷ 5 ∷ 0 ∷ 6 ∷ 0 ∷ []
 unfolding wholeRequests sessions requestsOf answersOf
 whole-answers = ap (λ xs. getD xs 5 []) sessions-hold
 
@@ -61,7 +61,7 @@ unfolding wholeTrace wholeRequests linesOf requestOf
 whole-requests = refl
 
 -- document 01's case whole
-pub whole-case : outputOf (bytesOf "0101\n020201\n020301\n040205\n030305\n0502\n030305\n040305\n0501\n0603\n040105\n0501\n") ≡ bytesOf "00\n00\n00\n00\n06\n00\n00\n00\n05\n00\n00\n00\n"
+pub whole-case : outputOf (bytesOf "0101\n020201\n020301\n040205\n030305\n0502\n030305\n040305\n0501\n0603\n040105\n0501\n") ≡ bytesOf "00\n00\n00\n00\n06\n00\n00\n00\n05\n00\n06\n00\n"
 unfolding outputBy wholeTrace flatten
 whole-case =
     written-played rules.empty (linesOf wholeTrace)
@@ -72,7 +72,7 @@ whole-case =
 -- ---- lines with a request and without one
 
 -- each code, with high bytes
-pub readable-requests : map (λ text. requestOf (bytesOf text)) ("01ff" ∷ "02fe0a" ∷ "03a0b1" ∷ "04c2d3" ∷ "05e4" ∷ "06f5" ∷ []) ≡ some (openTop 255) ∷ some (openSub 254 10) ∷ some (read 160 177) ∷ some (write 194 211) ∷ some (commit 228) ∷ some (abort 245) ∷ []
+pub readable-requests : map (λ text. requestOf (bytesOf text)) ("01ff" ∷ "02fe0a" ∷ "03a0b1" ∷ "04c2d3" ∷ "05e4" ∷ "06f5" ∷ "07f6a7" ∷ []) ≡ some (openTop 255) ∷ some (openSub 254 10) ∷ some (read 160 177) ∷ some (write 194 211) ∷ some (commit 228) ∷ some (abort 245) ∷ some (quiet 246 167) ∷ []
 unfolding requestOf
 readable-requests = refl
 
@@ -97,7 +97,9 @@ unreadable =
     ∷ "0001"
     ∷ "000101"
     ∷ "0701"
-    ∷ "070101"
+    ∷ "07010101"
+    ∷ "0801"
+    ∷ "080101"
     ∷ "1101"
     ∷ "110101"
     ∷ []

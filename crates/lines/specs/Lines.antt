@@ -7,7 +7,7 @@ use lib.Dec.{eqb, ltb}
 use Rattle.digits.specs.Digits.{hexDigit, digitOf}
 use Rattle.rules.specs.Tests.{if_then_else_}
 use Rattle.rules.specs.Bench as rules
-use Rattle.rules.specs.Requests.{Request, openTop, openSub, commit, abort}
+use Rattle.rules.specs.Requests.{Request, openTop, openSub, commit, abort, quiet}
 use Rattle.rules.specs.Answers.{answered}
 use Rattle.rules.specs.ReadWrite.{readWrite, read, write}
 
@@ -38,12 +38,13 @@ shortFrame code n =
     else if eqb code 6 then some (abort n)
     else none
 
--- a frame of three bytes: 02 nn pp open sub, 03 aa ii read, 04 aa ii write
+-- a frame of three bytes: 02 nn pp open sub, 03 aa ii read, 04 aa ii write, 07 aa ii quiet
 abbrev pub longFrame : ℕ → ℕ → ℕ → Option Request
 longFrame code x y =
     if eqb code 2 then some (openSub x y)
     else if eqb code 3 then some (read x y)
     else if eqb code 4 then some (write x y)
+    else if eqb code 7 then some (quiet x y)
     else none
 
 -- the frame of a line of four or of six characters

@@ -9,18 +9,35 @@ use forms::INSTRUMENT_DIGITS;
 use forms::INSTRUMENT_SIZE;
 ghost use mathlib.Core.Path.{_≡_};
 ghost use Prim.Native.Nat.{_<_};
-ghost use Rattle.forms.specs.Kinds.{parentByte, action, instrument};
+ghost use Rattle.forms.specs.Kinds.{parentByte, stateByte, action, instrument};
 ghost use Rattle.forms.specs.WellShaped.{takeOf, takeFrom};
 
-// A parent's byte in the record, from its digits in the text.
-fn parent_byte(p: u64) -> u8
-    requires { ⌜ p < 256 ⌝ }
-    ensures { λ r. ⌜ r ≡ parentByte p ⌝ }
+// A parent's byte in the record, from ss and pp: none for a number that drains and for a top action.
+fn parent_byte(ss: u64, pp: u64) -> u8
+    requires { ⌜ pp < 256 ⌝ }
+    ensures { λ r. ⌜ r ≡ parentByte ss pp ⌝ }
 {
-    if p == 0xff {
+    if ss == 3 {
         return 0;
     }
-    (p + 1) as u8
+    if pp == 0xff {
+        return 0;
+    }
+    (pp + 1) as u8
+}
+
+// A state's byte: of a number that drains it names the head, and where pp is ff it means nothing.
+fn state_byte(ss: u64, pp: u64) -> u8
+    requires { ⌜ ss < 256 ⌝ }
+    ensures { λ r. ⌜ r ≡ stateByte ss pp ⌝ }
+{
+    if ss != 3 {
+        return ss as u8;
+    }
+    if pp < 64 {
+        return (3 + pp) as u8;
+    }
+    67
 }
 
 // Reads the frame of action k, if it stands there; hands back where the text goes on.
@@ -36,11 +53,11 @@ fn take_action(
         ≡ takeOf action (now (text .entry)) k (record { at = at; first = now (parents .entry); second = now (states .entry) }) ⌝ }
 {
     let said = fields::fields_at(text, at, ACTION_DIGITS, ACTION_CODE, k);
-    let state = said.first;
-    let parent = said.second;
-    if said.stands & ((state == 1) | (state == 2)) & ((parent < 64) | (parent == 0xff)) {
-        parents[k] = parent_byte(parent);
-        states[k] = state as u8;
+    let ss = said.first;
+    let pp = said.second;
+    if said.stands & ((ss == 1) | (ss == 2) | (ss == 3)) & ((pp < 64) | (pp == 0xff)) {
+        parents[k] = parent_byte(ss, pp);
+        states[k] = state_byte(ss, pp);
         return at + ACTION_SIZE;
     }
     at

@@ -29,3 +29,6 @@ pub const MALFORMED: u8 = 8;
 
 // Save: the buffer is shorter than the text.
 pub const NO_ROOM: u8 = 9;
+
+// Quiet: the action isn't draining under itself, or its group isn't in the instrument's sets.
+pub const NOT_DRAINING: u8 = 10;

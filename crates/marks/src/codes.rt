@@ -10,3 +10,5 @@ pub const WRITE: u8 = 4;
 pub const COMMIT: u8 = 5;
 
 pub const ABORT: u8 = 6;
+
+pub const QUIET: u8 = 7;

@@ -1,37 +1,40 @@
 -- Whom an answer names in the arrays is whom the rules say, on the arrays before the answer and on those that it left. Assumes nothing.
 use mathlib.Core.Path.{_≡_, refl, sym, _∙_, ap}
-use mathlib.Core.Bool.{Bool, true, false, _&&_, _||_, or-false, or-comm}
+use mathlib.Core.Bool.{Bool, true, false, not, _&&_, _||_, and-true, or-false, or-comm}
 use mathlib.Core.List.{List}
 use mathlib.Core.Option.{Option, none, some}
 use Prim.Native.Nat.{ℕ, _+_, _%_, _≤_, _<_}
 use native.Mathlib.Nat.{mod-eq-of-lt}
 use native.Mathlib.Omega.{arith}
-use borrow.Author.Tests.{eqb-true, eqb-false, ltb-true, ltb-false, ne-eqb}
+use borrow.Author.Tests.{eqb-true, eqb-false, ltb-true, ltb-false, lt-ltb, ne-eqb, not-true}
 use lib.Dec.{eqb, ltb}
 use lib.ListN.{getD}
 use Rattle.sets.specs.Sets.{member}
 use Rattle.rules.specs.Tests.{any, from}
 use Rattle.rules.specs.Bench as rules
-use Rattle.rules.specs.Owners.{isAncestor, heir, isOwner, isAskerOrAncestor}
+use Rattle.rules.specs.Owners.{isAncestor, isOwner, isAskerOrAncestor, drainsUnder}
 use Rattle.rules.specs.Sound.{sound}
 use Rattle.rules.specs.Requests.{Request, ask}
 use Rattle.rules.specs.Answers.{Outcome, answerOf, step, answered}
-use Rattle.rules.specs.ReadWrite.{readWrite, reading, writing}
-use Rattle.rules.specs.Reasons.{smallest, isRunningChild, child, blocks, blocker, named, ownsAsked, reasonFor, reasonOf}
-use Rattle.rules.proofs.Tests.{by-bool, any-cong}
-use Rattle.rules.proofs.Smallest.{smallest-cong}
+use Rattle.rules.specs.ReadWrite.{readWrite, reading, writing, modeOf}
+use Rattle.rules.specs.Reasons.{smallest, offending, isRunningChild, child, blocks, blocker, named, ownsAsked, reasonFor, reasonOf}
+use Rattle.rules.proofs.Tests.{by-bool, and-left, and-right}
+use Rattle.rules.proofs.Smallest.{smallest-cong, smallest-is}
 use Rattle.rules.proofs.Reasons.{acting, answer-row, nobody-accepted, nobody-above, offending-named, child-found, refused-asks, blocker-found}
 use Rattle.views.specs.Arrays.{LineEnded}
 use Rattle.rules.specs.Frames.{framed}
 use Rattle.views.specs.View.{setsOf, view, layout, arrays}
-use Rattle.views.specs.Tree.{metFrom, nearestFrom}
-use Rattle.tables.proofs.ViewLaws.{running-byte, child-byte, tree-sound, parents-sound}
+use Rattle.views.specs.Tree.{metFrom}
+use Rattle.views.specs.Reach.{ownsSet}
+use Rattle.tables.proofs.States.{running-byte}
+use Rattle.tables.proofs.ViewLaws.{child-byte, parents-sound}
+use Rattle.tables.proofs.Groups.{group-byte}
 use Rattle.tables.proofs.Lines.{met-in-line}
-use Rattle.tables.proofs.Heirs.{nearest-heir}
+use Rattle.tables.proofs.Owning.{owner-told}
 use Rattle.tables.proofs.Steps.{step-refused}
 use Rattle.naming.specs.Told.{told, nobodyFor, namedFor}
-use Rattle.naming.specs.Blocking.{heirOfSome, againstFrame, blocksIn, blockedIn, childWith, offendingIn, namedIn}
-use Rattle.naming.proofs.Frames.{modeOf, offending-framed, child-framed, asked-framed, is-request}
+use Rattle.naming.specs.Blocking.{againstFrame, blocksIn, blockedIn, childWith, offendingIn, namedIn}
+use Rattle.naming.proofs.Frames.{offending-framed, child-framed, asked-framed, is-request}
 
 module _ (b : rules.Bench) (q : Option Request) (n : ℕ) (e : n ≡ reasonOf readWrite b q .answer) where
   told-nobody : ((r : Request) → named readWrite b r n ≡ none) → (n ≡ 6 → ⊥) → nobodyFor n ≡ told (reasonOf readWrite b q)
@@ -48,22 +51,32 @@ module _ (b : rules.Bench) (q : Option Request) (n : ℕ) (e : n ≡ reasonOf re
       let h : n ≡ answerOf readWrite b r = rw is at e in
       rw (is, ← h, found, ne-eqb n 6 other)
 
-  -- ---- 0, 7 and 8
+  -- ---- 0, 7, 8 and any other above 6 but 10
 
   accepted-told : n ≡ 0 → nobodyFor n ≡ told (reasonOf readWrite b q)
   accepted-told z = told-nobody (λ r. rw z (nobody-accepted readWrite b r)) (λ six. omega arith)
 
-  above-told : 6 < n → nobodyFor n ≡ told (reasonOf readWrite b q)
-  above-told l = told-nobody (λ r. nobody-above readWrite b r n l) (λ six. omega arith)
+  above-told : 6 < n → (n ≡ 10 → ⊥) → nobodyFor n ≡ told (reasonOf readWrite b q)
+  above-told l other = told-nobody (λ r. nobody-above readWrite b r n l other) (λ six. omega arith)
 
--- ---- 1 to 4
+-- ---- 1 to 4, and 10
 
-offending-told : (b : rules.Bench) (code x y n : ℕ) → n ≡ reasonOf readWrite b (framed code x y) .answer → 0 < n → n ≤ 4 → namedFor n (offendingIn code x y n) ≡ told (reasonOf readWrite b (framed code x y))
-offending-told b code x y n e low high =
-    let request = is-request b (framed code x y) n e (λ eight. omega arith) in
-    let r = request .0 in
-    told-named b (framed code x y) n e r (offendingIn code x y n) (request .1)
-    (offending-named readWrite b r n low high ∙ ap some (sym (offending-framed x y n code r (request .1)))) (λ six. omega arith)
+ten-named : (b : rules.Bench) (r : Request) (n : ℕ) → n ≡ 10 → named readWrite b r n ≡ some (offending readWrite r n)
+unfolding named
+ten-named b r n ten = rw ten
+
+module _ (b : rules.Bench) (code x y n : ℕ) (e : n ≡ reasonOf readWrite b (framed code x y) .answer) where
+  offender-told : ((r : Request) → named readWrite b r n ≡ some (offending readWrite r n)) → (n ≡ 8 → ⊥) → (n ≡ 6 → ⊥) → namedFor n (offendingIn code x y n) ≡ told (reasonOf readWrite b (framed code x y))
+  offender-told names eight six =
+      let request = is-request b (framed code x y) n e eight in
+      let r = request .0 in
+      told-named b (framed code x y) n e r (offendingIn code x y n) (request .1) (names r ∙ ap some (sym (offending-framed x y n code r (request .1)))) six
+
+  offending-told : 0 < n → n ≤ 4 → namedFor n (offendingIn code x y n) ≡ told (reasonOf readWrite b (framed code x y))
+  offending-told low high = offender-told (λ r. offending-named readWrite b r n low high) (λ eight. omega arith) (λ six. omega arith)
+
+  ten-told : n ≡ 10 → namedFor n (offendingIn code x y n) ≡ told (reasonOf readWrite b (framed code x y))
+  ten-told ten = offender-told (λ r. ten-named b r n ten) (λ eight. omega arith) (λ six. omega arith)
 
 -- ---- 5 and 6
 
@@ -71,7 +84,7 @@ named-child : (b : rules.Bench) (r : Request) (n k : ℕ) → n ≡ 5 → child 
 unfolding named
 named-child b r n k five found = rw five found
 
-told-blocker : (b : rules.Bench) (q : Option Request) (m a i h : ℕ) → q ≡ some (ask m a i) → answerOf readWrite b (ask m a i) ≡ 6 → smallest 64 (blocks readWrite b m a i) ≡ some h → told (reasonOf readWrite b q) ≡ record { answer = 6; names = true; number = h; reads = isOwner readWrite b reading i h; writes = isOwner readWrite b writing i h }
+told-blocker : (b : rules.Bench) (q : Option Request) (m a i h : ℕ) → q ≡ some (ask m a i) → answerOf readWrite b (ask m a i) ≡ 6 → smallest 64 (blocks readWrite b m a i) ≡ some h → told (reasonOf readWrite b q) ≡ record { answer = 6; names = true; number = h; reads = isOwner readWrite b reading i h; writes = isOwner readWrite b writing i h; drains = drainsUnder b h h }
 unfolding named blocker ownsAsked reasonOf reasonFor
 told-blocker b q m a i h is answer found = rw (is, answer, found)
 
@@ -83,7 +96,7 @@ module _ (parents states reads writes : List ℕ) (code x y n : ℕ) (e : n ≡ 
   children-bytes : (a : ℕ) → smallest 64 (isRunningChild b a) ≡ childWith parents states (a + 1)
   children-bytes a =
       smallest-cong 64 (isRunningChild b a) (λ k. eqb (getD states k 0) 1 && eqb (getD parents k 0) (a + 1))
-      (λ k l. rw (running-byte (getD states k 0), child-byte (getD parents k 0) a))
+      (λ k l. rw (running-byte 64 (getD states k 0), child-byte (getD parents k 0) a))
 
   child-told : n ≡ 5 → namedFor n (from (childWith parents states (x % 64 + 1)) 0 (λ k. k)) ≡ told (reasonOf readWrite b (framed code x y))
   child-told five =
@@ -97,14 +110,9 @@ module _ (parents states reads writes : List ℕ) (code x y n : ℕ) (e : n ≡ 
       rw first (told-named b (framed code x y) n e r k (request .1) (named-child b r n k five (c .1)) (λ six. omega arith))
 
   module _ (ok : sound readWrite b ≡ true) where
-    -- owners by Moss's rules are the heirs of the numbers in a set
-    owner-same : (m i h : ℕ) → isOwner readWrite b m i h ≡ heirOfSome parents states (getD (setsOf m reads writes) i 0) h
-    unfolding isOwner heir
-    owner-same m i h =
-        any-cong 64 (λ k. member (getD (setsOf m reads writes) i 0) k && from (heir readWrite b k) false (λ z. eqb z h))
-        (λ k. member (getD (setsOf m reads writes) i 0) k && from (nearestFrom parents states k) false (λ z. eqb z h))
-        (λ k l. ap (λ o. member (getD (setsOf m reads writes) i 0) k && from o false (λ z. eqb z h))
-        (sym (nearest-heir 64 parents states (tree-sound layout (arrays parents states reads writes) ok) k l)))
+    -- the owners by Moss's rules, as the bytes tell them
+    owner-same : (m i h : ℕ) → isOwner readWrite b m i h ≡ ownsSet parents states (getD (setsOf m reads writes) i 0) h
+    owner-same = owner-told layout (arrays parents states reads writes) ok
 
     -- the asker's line is what is met going up from it
     line-same : (a h : ℕ) → a < 64 → isAskerOrAncestor readWrite b a h ≡ metFrom parents a h
@@ -112,26 +120,26 @@ module _ (parents states reads writes : List ℕ) (code x y n : ℕ) (e : n ≡ 
     line-same a h l = sym (met-in-line 64 parents (parents-sound layout (arrays parents states reads writes) ok) a l h)
 
     -- the modes that conflict with the frame's
-    conflicts-same : (owns : ℕ → Bool) → any 2 (λ held. readWrite .conflict (modeOf code) held && owns held) ≡ againstFrame code (owns reading) (owns writing)
+    conflicts-same : (owns : ℕ → Bool) → any 2 (λ held. readWrite .conflict (modeOf (eqb code 4)) held && owns held) ≡ againstFrame code (owns reading) (owns writing)
     unfolding any
     conflicts-same owns =
-        by-bool (eqb code 3) (λ t. rw t (or-false (owns writing)))
-        (λ t. rw t (ap (λ s. owns writing || s) (or-false (owns reading)) ∙ or-comm (owns writing) (owns reading)))
+        by-bool (eqb code 4) (λ t. rw t (ap (λ s. owns writing || s) (or-false (owns reading)) ∙ or-comm (owns writing) (owns reading)))
+        (λ t. rw t (or-false (owns writing)))
 
-    blocks-same : (a i h : ℕ) → a < 64 → blocks readWrite b (modeOf code) a i h ≡ blocksIn parents states (getD reads i 0) (getD writes i 0) code a h
+    blocks-same : (a i h : ℕ) → a < 64 → blocks readWrite b (modeOf (eqb code 4)) a i h ≡ blocksIn parents states (getD reads i 0) (getD writes i 0) code a h
     unfolding blocks
     blocks-same a i h l =
         rw (conflicts-same (λ held. isOwner readWrite b held i h), owner-same reading i h, owner-same writing i h, line-same a h l)
 
   -- A refused frame: it asks in its mode for its two numbers, which are of the table, and h is the smallest that blocks.
   record Refusal : Type 0 where
-    request : framed code x y ≡ some (ask (modeOf code) x y)
+    request : framed code x y ≡ some (ask (modeOf (eqb code 4)) x y)
     known : x < 64
     instrumentKnown : y < 128
     isSound : sound readWrite b ≡ true
-    answer : answerOf readWrite b (ask (modeOf code) x y) ≡ 6
+    answer : answerOf readWrite b (ask (modeOf (eqb code 4)) x y) ≡ 6
     h : ℕ
-    found : smallest 64 (blocks readWrite b (modeOf code) x y) ≡ some h
+    found : smallest 64 (blocks readWrite b (modeOf (eqb code 4)) x y) ≡ some h
 
   refusal : n ≡ 6 → Refusal
   refusal six =
@@ -139,14 +147,14 @@ module _ (parents states reads writes : List ℕ) (code x y n : ℕ) (e : n ≡ 
       let fact = refused-asks readWrite b (request .0) (request .2 ∙ six) in
       from-ask (fact .m) (fact .a) (fact .i) (request .1 ∙ ap some (fact .is)) (fact .known) (fact .instrumentKnown) (rw (fact .is) at (request .2 ∙ six))
     where
-      from-frame : framed code x y ≡ some (ask (modeOf code) x y) → x < 64 → y < 128 → answerOf readWrite b (ask (modeOf code) x y) ≡ 6 → Refusal
+      from-frame : framed code x y ≡ some (ask (modeOf (eqb code 4)) x y) → x < 64 → y < 128 → answerOf readWrite b (ask (modeOf (eqb code 4)) x y) ≡ 6 → Refusal
       from-frame is lx ly answer =
-          let block = blocker-found readWrite b (modeOf code) x y answer in
+          let block = blocker-found readWrite b (modeOf (eqb code 4)) x y answer in
           record {
             request = is;
             known = lx;
             instrumentKnown = ly;
-            isSound = answer-row readWrite b (ask (modeOf code) x y) 6 answer (λ seven. omega arith) .0;
+            isSound = answer-row readWrite b (ask (modeOf (eqb code 4)) x y) 6 answer (λ seven. omega arith) .0;
             answer = answer;
             h = block .0;
             found = block .1;
@@ -154,7 +162,7 @@ module _ (parents states reads writes : List ℕ) (code x y n : ℕ) (e : n ≡ 
 
       from-ask : (m a i : ℕ) → framed code x y ≡ some (ask m a i) → a < 64 → i < 128 → answerOf readWrite b (ask m a i) ≡ 6 → Refusal
       from-ask m a i is la li answer =
-          let same : ask m a i ≡ ask (modeOf code) x y = asked-framed x y code m a i is in
+          let same : ask m a i ≡ ask (modeOf (eqb code 4)) x y = asked-framed x y code m a i is in
           let ea : a ≡ x = cc in
           let ei : i ≡ y = cc in
           from-frame (is ∙ ap some same) (rw ea at la) (rw ei at li) (rw same at answer)
@@ -166,9 +174,18 @@ module _ (parents states reads writes : List ℕ) (code x y n : ℕ) (e : n ≡ 
       by-refusal f =
           let blocking : ℕ → Bool = blocksIn parents states (getD reads y 0) (getD writes y 0) code x in
           let here : smallest 64 blocking ≡ some (f .h) =
-          sym (smallest-cong 64 (blocks readWrite b (modeOf code) x y) blocking (λ k l. blocks-same (f .isSound) x y k (f .known))) ∙ f .found in
-          rw (mod-eq-of-lt (f .known), mod-eq-of-lt (f .instrumentKnown), here, ← owner-same (f .isSound) reading y (f .h), ← owner-same (f .isSound) writing y (f .h))
-          (sym (told-blocker b (framed code x y) (modeOf code) x y (f .h) (f .request) (f .answer) (f .found)))
+          sym (smallest-cong 64 (blocks readWrite b (modeOf (eqb code 4)) x y) blocking (λ k l. blocks-same (f .isSound) x y k (f .known))) ∙ f .found in
+          let known = smallest-is 64 blocking (f .h) here .known in
+          rw (
+            mod-eq-of-lt (f .known),
+            mod-eq-of-lt (f .instrumentKnown),
+            here,
+            ← owner-same (f .isSound) reading y (f .h),
+            ← owner-same (f .isSound) writing y (f .h),
+            lt-ltb (f .h) 64 known,
+            ← group-byte layout (arrays parents states reads writes) (f .h) (f .h) known,
+          )
+          (sym (told-blocker b (framed code x y) (modeOf (eqb code 4)) x y (f .h) (f .request) (f .answer) (f .found)))
 
   -- each answer is told as its row says
   pub named-told : namedIn parents states (getD reads (y % 128) 0) (getD writes (y % 128) 0) code x y n ≡ told (reasonOf readWrite b (framed code x y))
@@ -176,13 +193,16 @@ module _ (parents states reads writes : List ℕ) (code x y n : ℕ) (e : n ≡ 
   named-told =
       by-bool (eqb n 0) (λ t. rw t (accepted-told b (framed code x y) n e (eqb-true n 0 t)))
       (λ some-refusal.
-      by-bool (ltb 6 n) (λ t. rw (some-refusal, t) (above-told b (framed code x y) n e (ltb-true 6 n t)))
+      by-bool (ltb 6 n && not (eqb n 10))
+      (λ t. rw (some-refusal, t) (above-told b (framed code x y) n e (ltb-true 6 n (and-left (ltb 6 n) (not (eqb n 10)) t)) (eqb-false n 10 (not-true (eqb n 10) (and-right (ltb 6 n) (not (eqb n 10)) t)))))
       (λ low.
       by-bool (eqb n 6) (λ t. rw (some-refusal, low, t) (blocked-told (eqb-true n 6 t)))
       (λ no-blocker.
       by-bool (eqb n 5) (λ t. rw (some-refusal, low, no-blocker, t) (child-told (eqb-true n 5 t)))
       (λ no-child.
-      rw (some-refusal, low, no-blocker, no-child) (offending-told b code x y n e (above-zero (eqb-false n 0 some-refusal)) (below-five (ltb-false 6 n low) (eqb-false n 6 no-blocker) (eqb-false n 5 no-child)))))))
+      rw (some-refusal, low, no-blocker, no-child)
+      (by-bool (eqb n 10) (λ t. ten-told b code x y n e (eqb-true n 10 t))
+      (λ t. offending-told b code x y n e (above-zero (eqb-false n 0 some-refusal)) (below-five (ltb-false 6 n (sym (and-true (ltb 6 n)) ∙ rw t at low)) (eqb-false n 6 no-blocker) (eqb-false n 5 no-child))))))))
     where
       above-zero : (n ≡ 0 → ⊥) → 0 < n
       above-zero h = omega arith

@@ -2,8 +2,9 @@
 use mathlib.Core.Bool.{Bool, true, false}
 use mathlib.Core.List.{List, [], _∷_, _++_}
 use mathlib.Core.Option.{Option}
-use Prim.Native.Nat.{ℕ, _-_, _/_, _%_}
+use Prim.Native.Nat.{ℕ, _+_, _-_, _/_, _%_}
 use lib.ListN.{length, replicate}
+use lib.Seq.{sets}
 use Rattle.digits.specs.Digits.{hexDigit}
 use Rattle.rules.specs.Tests.{if_then_else_}
 use Rattle.rules.specs.Bench as rules
@@ -26,15 +27,32 @@ waysText true false = bytesOf " reading"
 waysText false true = bytesOf " writing"
 waysText false false = []
 
--- The answer; where it names somebody, the number and how that one owns the instrument; 0a.
-abbrev pub reasonText : Reason → List ℕ
-reasonText r =
-    twoDigits (r .answer)
-    ++ ((if r .names then bytesOf " " ++ (twoDigits (r .number) ++ waysText (r .reads) (r .writes)) else []) ++ bytesOf "\n")
+-- that somebody drains
+abbrev pub drainsText : Bool → List ℕ
+drainsText drains = if drains then bytesOf " draining" else []
 
--- the text, and 0 behind it up to 14 bytes, which is the longest
+-- who is named: the number, how that one owns the instrument, and that it drains
+abbrev pub namedText : Reason → List ℕ
+namedText r = bytesOf " " ++ (twoDigits (r .number) ++ (waysText (r .reads) (r .writes) ++ drainsText (r .drains)))
+
+-- The answer; who is named, where somebody is; 0a.
+abbrev pub reasonText : Reason → List ℕ
+reasonText r = twoDigits (r .answer) ++ ((if r .names then namedText r else []) ++ bytesOf "\n")
+
+-- the longest text's length
+abbrev pub longest : ℕ
+longest = 23
+
+-- a text, and 0 behind it up to the longest
+abbrev pub padded : List ℕ → Text
+padded text = record { bytes = text ++ replicate (longest - length text) 0; size = length text }
+
 abbrev pub textOf : Reason → Text
-textOf r = record { bytes = reasonText r ++ replicate (14 - length (reasonText r)) 0; size = length (reasonText r) }
+textOf r = padded (reasonText r)
+
+-- a text with a word behind it
+abbrev pub joinedTo : Text → List ℕ → Text
+joinedTo t word = record { bytes = sets (t .bytes) (t .size) word; size = t .size + length word }
 
 -- What is written for a line that is explained, from the bench before it.
 abbrev pub reasonLine : rules.Bench → Option Request → List ℕ

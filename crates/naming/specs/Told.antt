@@ -1,4 +1,4 @@
--- A reason as the record that says it: 0 and false where nobody is named, and for every answer but 6 the two modes false.
+-- A reason as the record that says it: 0 and false where nobody is named, and for every answer but 6 the two modes and `drains` false.
 use mathlib.Core.Bool.{true, false}
 use Prim.Native.Nat.{ℕ}
 use Rattle.rules.specs.Tests.{from}
@@ -14,11 +14,12 @@ told e =
       number = from (e .names) 0 (λ n. n);
       reads = e .owns reading;
       writes = e .owns writing;
+      drains = e .drains;
     }
 
--- an answer that names nobody, and one from 1 to 5 that names a number
+-- an answer that names nobody, and one from 1 to 5, or 10, that names a number
 abbrev pub nobodyFor : ℕ → Reason
-nobodyFor answer = record { answer = answer; names = false; number = 0; reads = false; writes = false }
+nobodyFor answer = record { answer = answer; names = false; number = 0; reads = false; writes = false; drains = false }
 
 abbrev pub namedFor : ℕ → ℕ → Reason
-namedFor answer number = record { answer = answer; names = true; number = number; reads = false; writes = false }
+namedFor answer number = record { answer = answer; names = true; number = number; reads = false; writes = false; drains = false }

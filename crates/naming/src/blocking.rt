@@ -1,39 +1,25 @@
-// Who blocks: the heirs of the numbers in an instrument's sets that are neither the asker nor an ancestor; and who is a running child.
+// Who blocks: the owners of an instrument that are neither the asker nor an ancestor; and who is a running child.
 use crate::Reason;
 use marks::answers::NOT_GRANTED;
+use marks::bytes::wide;
+use marks::codes::WRITE;
+use marks::states::DRAINING;
 use marks::states::RUNNING;
+use tree::owners::conflicting;
+use tree::owners::owners_of;
 ghost use mathlib.Core.Path.{_≡_};
-ghost use Prim.Native.Nat.{ℕ, _%_};
-ghost use Rattle.sets.specs.Sets.{member, union};
-ghost use Rattle.rules.specs.Tests.{if_then_else_, from};
-ghost use lib.Dec.{eqb};
-ghost use Rattle.naming.specs.Blocking.{heirOfSome, blockedIn, childWith};
+ghost use Prim.Native.Nat.{_%_};
+ghost use Rattle.rules.specs.Tests.{from};
+ghost use Rattle.naming.specs.Blocking.{drainsIn, blockedIn, childWith};
 
-// The owners by Moss's rules: the heirs of the numbers in a set, as a set.
-fn heirs_of<'a>(parents: &'a [u8; 64], states: &'a [u8; 64], set: u64) -> u64
-    ensures { λ r. ⌜ ((h : ℕ) → member r h ≡ heirOfSome (now (parents .entry)) (now (states .entry)) set h) ⌝ }
+// Whether number k drains under itself.
+fn drains(states: &[u8; 64], k: usize) -> bool
+    ensures { λ r. ⌜ r ≡ drainsIn (now (states .entry)) k ⌝ }
 {
-    let mut heirs = 0u64;
-    let mut rest = set;
-    while rest != 0 {
-        let k = sets::least(rest);
-        heirs = sets::with(heirs, tree::heir(parents, states, k));
-        rest = sets::without_least(rest);
-    }
-    heirs
+    k < 64 && wide(states[k]) == wide(DRAINING) + k
 }
 
-// The owners in a mode that conflicts with the frame's: a read conflicts with writers alone.
-fn conflicting(code: u8, readers: u64, writers: u64) -> u64
-    ensures { λ r. ⌜ r ≡ (if eqb code 3 then writers else union readers writers) ⌝ }
-{
-    if code == 3 {
-        return writers;
-    }
-    sets::union(readers, writers)
-}
-
-// The smallest-numbered one that blocks a, and the sets of the instrument in which it owns; 0 and none of them where nobody blocks.
+// The smallest-numbered one that blocks a, the sets of the instrument in which it owns, and whether it drains; 0 and none of them where nobody blocks.
 pub(crate) fn blocked<'a>(
     parents: &'a [u8; 64],
     states: &'a [u8; 64],
@@ -44,16 +30,17 @@ pub(crate) fn blocked<'a>(
 ) -> Reason
     ensures { λ r. ⌜ r ≡ blockedIn (now (parents .entry)) (now (states .entry)) readers writers code (a % 64) ⌝ }
 {
-    let reading = heirs_of(parents, states, readers);
-    let writing = heirs_of(parents, states, writers);
+    let reading = owners_of(parents, states, readers);
+    let writing = owners_of(parents, states, writers);
     let line = tree::line_of(parents, a);
-    let blocker = sets::least(sets::difference(conflicting(code, reading, writing), line));
+    let blocker = sets::least(sets::difference(conflicting(code == WRITE, reading, writing), line));
     Reason {
         answer: NOT_GRANTED,
         names: true,
         number: (blocker % 64) as u32,
         reads: sets::member(reading, blocker),
         writes: sets::member(writing, blocker),
+        drains: drains(states, blocker),
     }
 }
 

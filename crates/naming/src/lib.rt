@@ -1,4 +1,4 @@
-// Whom an answer names (document 02, order 1): for a frame that got an answer, from the arrays that it left, and the line of text that says so. A refused
+// Whom an answer names (document 02, orders 1 and 2): for a frame that got an answer, from the arrays that it left, and the line of text that says so. A refused
 // request leaves the record as it was, so that the reason can be looked for afterwards.
 mod blocking;
 mod offending;
@@ -8,20 +8,22 @@ use blocking::blocked;
 use blocking::first_child;
 use marks::answers::ACCEPTED;
 use marks::answers::HAS_RUNNING_CHILD;
+use marks::answers::NOT_DRAINING;
 use marks::answers::NOT_GRANTED;
 use offending::offending;
 ghost use mathlib.Core.Path.{_≡_};
 ghost use Rattle.naming.specs.Told.{nobodyFor, namedFor};
 ghost use Rattle.naming.specs.Blocking.{namedIn};
 
-// The answer, and whom it names: for 1 to 4 the offending number, for 5 the smallest running child, for 6 the smallest-numbered running action that
-// blocks, with whether it owns the instrument for reading and for writing. 0, 7 and 8 name nobody.
+// The answer, and whom it names: for 1 to 4 the offending number, for 5 the smallest running child, for 6 the smallest-numbered owner that blocks, with
+// whether it owns the instrument for reading and for writing and whether it drains, for 10 the action that isn't draining. 0, 7 and 8 name nobody.
 pub struct Reason {
     pub answer: u8,
     pub names: bool,
     pub number: u32,
     pub reads: bool,
     pub writes: bool,
+    pub drains: bool,
 }
 
 fn nobody(answer: u8) -> Reason
@@ -33,6 +35,7 @@ fn nobody(answer: u8) -> Reason
         number: 0,
         reads: false,
         writes: false,
+        drains: false,
     }
 }
 
@@ -45,6 +48,7 @@ fn naming(answer: u8, number: u32) -> Reason
         number: number,
         reads: false,
         writes: false,
+        drains: false,
     }
 }
 
@@ -65,7 +69,7 @@ pub fn named<'a>(
     if answer == ACCEPTED {
         return nobody(answer);
     }
-    if NOT_GRANTED < answer {
+    if (NOT_GRANTED < answer) & (answer != NOT_DRAINING) {
         return nobody(answer);
     }
     if answer == NOT_GRANTED {

@@ -2,6 +2,10 @@
 use marks::answers::NO_SUCH_ACTION;
 use marks::answers::NO_SUCH_INSTRUMENT;
 use marks::answers::NOT_RUNNING;
+use marks::codes::OPEN_SUB;
+use marks::codes::QUIET;
+use marks::codes::READ;
+use marks::codes::WRITE;
 ghost use mathlib.Core.Path.{_≡_};
 ghost use Rattle.naming.specs.Blocking.{offendingIn};
 
@@ -21,14 +25,14 @@ fn offending_sub(n: u32, p: u32, answer: u8) -> u32
     n
 }
 
-// The offending number of a frame, for an answer from 1 to 4.
+// The offending number of a frame, for an answer from 1 to 4, or 10.
 pub(crate) fn offending(code: u8, x: u32, y: u32, answer: u8) -> u32
     ensures { λ r. ⌜ r ≡ offendingIn code x y answer ⌝ }
 {
-    if code == 2 {
+    if code == OPEN_SUB {
         return offending_sub(x, y, answer);
     }
-    if (answer == NO_SUCH_INSTRUMENT) & ((code == 3) | (code == 4)) {
+    if (answer == NO_SUCH_INSTRUMENT) & ((code == READ) | (code == WRITE) | (code == QUIET)) {
         return y;
     }
     x

@@ -16,7 +16,7 @@ use Rattle.rules.specs.Tests.{if_then_else_}
 use Rattle.rules.proofs.Tests.{by-bool}
 use Rattle.lines.specs.Lines.{answerLine, outputBy, outputOf}
 use Rattle.lines.specs.Feeding.{between, fed, saidBy, saidByteBy, saidAtEndBy, takenBy}
-use Rattle.naming.specs.Text.{reasonLine}
+use Rattle.naming.specs.Text.{longest, reasonLine}
 use Rattle.bench.proofs.Unique.{Fits}
 use Rattle.play.specs.declared.Player.{Player}
 use Rattle.play.specs.declared.Fed.{Fed}
@@ -102,5 +102,5 @@ pub plays-the-whole-trace : {p q : Player} {xs ys : List ℕ} {out : List ℕ} {
 plays-the-whole-trace = says-the-whole-trace answerLine 3 (omega arith)
 
 -- With `explain` and `finish_explaining` it is each line's reason.
-pub explains-the-whole-trace : {p q : Player} {xs ys : List ℕ} {out : List ℕ} {r : Fed} {out' : List ℕ} → feeding p ≡ between empty → Explains p xs ys q → 14 ≤ length out → FinishedExplainingAs q out r out' → ys ++ take (r .written) out' ≡ outputBy reasonLine xs
-explains-the-whole-trace = says-the-whole-trace reasonLine 14 (omega arith)
+pub explains-the-whole-trace : {p q : Player} {xs ys : List ℕ} {out : List ℕ} {r : Fed} {out' : List ℕ} → feeding p ≡ between empty → Explains p xs ys q → longest ≤ length out → FinishedExplainingAs q out r out' → ys ++ take (r .written) out' ≡ outputBy reasonLine xs
+explains-the-whole-trace = says-the-whole-trace reasonLine longest (omega arith)

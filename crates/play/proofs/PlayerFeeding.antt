@@ -18,7 +18,7 @@ use Rattle.lines.specs.NextEnds.{EndsAs}
 use Rattle.steps.proofs.Halves.{read-set-at, write-set-at}
 use Rattle.naming.specs.declared.Reason.{Reason}
 use Rattle.naming.specs.declared.text.Text.{Text}
-use Rattle.naming.specs.Text.{reasonText, textOf}
+use Rattle.naming.specs.Text.{reasonText, longest, textOf}
 use Rattle.naming.proofs.Telling.{told-after}
 use Rattle.naming.proofs.Texts.{text-short, reason-short, text-front}
 use Rattle.frames.specs.declared.Frame.{Frame}
@@ -94,7 +94,7 @@ line-said telling before after f ends m put =
     ends (m .ended) (text-said telling {before = before} {after = after} f m) (put .wrote) (put .upTo)
 
 -- the room for a line, by whether it is explained
-pub told-room : (telling : Bool) (at long : ℕ) → telling ≡ true → at + widthBy telling ≤ long → at + 14 ≤ long
+pub told-room : (telling : Bool) (at long : ℕ) → telling ≡ true → at + widthBy telling ≤ long → at + longest ≤ long
 told-room true at long e h = h
 told-room false at long e h = clash false e refl
 
@@ -102,7 +102,7 @@ pub answer-room : (telling : Bool) (at long : ℕ) → telling ≡ false → at 
 answer-room true at long e h = clash true refl e
 answer-room false at long e h = h
 
-pub text-small : (r : Reason) (text : Text) → text ≡ textOf r → text .size ≤ 14
+pub text-small : (r : Reason) (text : Text) → text ≡ textOf r → text .size ≤ longest
 text-small r text e = rw e (text-short r)
 
 -- the line of a reason, and that of an answer

@@ -10,7 +10,7 @@ use Rattle.rules.specs.Bench.{empty}
 use Rattle.rules.specs.Requests.{Request}
 use Rattle.lines.specs.Lines.{answerLine, outputBy, outputOf}
 use Rattle.lines.specs.Feeding.{between, fed, saidBy, saidAtEndBy, saidAtEnd, takenBy}
-use Rattle.naming.specs.Text.{reasonLine}
+use Rattle.naming.specs.Text.{longest, reasonLine}
 use Rattle.lines.proofs.LineFeeding.{fed-append, said-append, output-of-feeding}
 use Rattle.play.specs.declared.Player.{Player}
 use Rattle.play.specs.Feeding.{feeding}
@@ -42,4 +42,4 @@ plays-the-trace = says-the-trace answerLine 3
 
 -- With `explain` they are each line's reason.
 pub explains-the-trace : {p q : Player} {xs ys : List ℕ} → feeding p ≡ between empty → Explains p xs ys q → ys ++ saidAtEndBy reasonLine (feeding q) ≡ outputBy reasonLine xs
-explains-the-trace = says-the-trace reasonLine 14
+explains-the-trace = says-the-trace reasonLine longest

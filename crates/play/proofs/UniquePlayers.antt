@@ -8,7 +8,7 @@ use Rattle.rules.specs.Bench as rules
 use Rattle.rules.specs.Requests.{Request}
 use Rattle.lines.specs.Lines.{answerLine}
 use Rattle.lines.specs.Feeding.{saidBy, takenBy}
-use Rattle.naming.specs.Text.{reasonLine}
+use Rattle.naming.specs.Text.{longest, reasonLine}
 use Rattle.bench.specs.declared.Bench.{Bench}
 use Rattle.bench.proofs.Unique.{Fits, view-injective}
 use Rattle.play.specs.declared.Player.{Player}
@@ -37,4 +37,4 @@ pub fed-unique : (p : Player) (input out : List ℕ) (x y : Fed) (out-x out-y : 
 fed-unique = fed-by-unique answerLine 3
 
 pub explained-unique : (p : Player) (input out : List ℕ) (x y : Fed) (out-x out-y : List ℕ) → Fits (x .player .bench) → Fits (y .player .bench) → ExplainedAs p input out x out-x → ExplainedAs p input out y out-y → (x ≡ y) × (out-x ≡ out-y)
-explained-unique = fed-by-unique reasonLine 14
+explained-unique = fed-by-unique reasonLine longest

@@ -12,7 +12,7 @@ use Rattle.rules.specs.Requests.{Request}
 use Rattle.bench.specs.Record.{viewed}
 use Rattle.lines.specs.Lines.{answerLine}
 use Rattle.lines.specs.Feeding.{Feeding, fed, saidBy, takenBy}
-use Rattle.naming.specs.Text.{reasonLine}
+use Rattle.naming.specs.Text.{longest, reasonLine}
 use Rattle.play.specs.declared.Player.{Player}
 use Rattle.play.specs.declared.Fed.{Fed}
 
@@ -34,14 +34,14 @@ FedAs = FedAsBy answerLine 3
 
 -- with reasons
 abbrev pub ExplainedAs : Player → List ℕ → List ℕ → Fed → List ℕ → Type 0
-ExplainedAs = FedAsBy reasonLine 14
+ExplainedAs = FedAsBy reasonLine longest
 
 -- what is written for a line, its reason where the player explains and else its answer, and the longest of it
 abbrev pub sayBy : Bool → rules.Bench → Option Request → List ℕ
 sayBy telling = if telling then reasonLine else answerLine
 
 abbrev pub widthBy : Bool → ℕ
-widthBy telling = if telling then 14 else 3
+widthBy telling = if telling then longest else 3
 
 -- A text has been put at a place of the buffer, and ends at another.
 pub record PutAs (text out : List ℕ) (at : ℕ) (out' : List ℕ) (at' : ℕ) : Type 0 where

@@ -6,7 +6,7 @@ use lib.ListN.{take}
 use Rattle.rules.specs.Bench as rules
 use Rattle.rules.specs.Requests.{Request}
 use Rattle.lines.specs.Lines.{answerLine}
-use Rattle.naming.specs.Text.{reasonLine}
+use Rattle.naming.specs.Text.{longest, reasonLine}
 use Rattle.play.specs.declared.Player.{Player}
 use Rattle.play.specs.declared.Fed.{Fed}
 use Rattle.play.specs.Feeding.{FedAsBy}
@@ -21,4 +21,4 @@ abbrev pub Feeds : Player → List ℕ → List ℕ → Player → Type 0
 Feeds = FeedsBy answerLine 3
 
 abbrev pub Explains : Player → List ℕ → List ℕ → Player → Type 0
-Explains = FeedsBy reasonLine 14
+Explains = FeedsBy reasonLine longest

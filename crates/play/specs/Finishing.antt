@@ -12,7 +12,7 @@ use Rattle.rules.specs.Bench as rules
 use Rattle.rules.specs.Requests.{Request}
 use Rattle.lines.specs.Lines.{answerLine}
 use Rattle.lines.specs.Feeding.{Feeding, fedByte, saidByteBy}
-use Rattle.naming.specs.Text.{reasonLine}
+use Rattle.naming.specs.Text.{longest, reasonLine}
 use Rattle.play.specs.declared.Player.{Player}
 use Rattle.play.specs.declared.Fed.{Fed}
 use Rattle.play.specs.Feeding.{feeding}
@@ -47,4 +47,4 @@ FinishedAs = FinishedAsBy answerLine 3
 
 -- with its reason
 abbrev pub FinishedExplainingAs : Player → List ℕ → Fed → List ℕ → Type 0
-FinishedExplainingAs = FinishedAsBy reasonLine 14
+FinishedExplainingAs = FinishedAsBy reasonLine longest

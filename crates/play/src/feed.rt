@@ -18,7 +18,7 @@ fn takes(telling: bool, input: &[u8], out: &[u8]) -> usize
     ensures { λ r. ⌜ r ≡ takenBy (widthBy «telling») (now (input .entry)) (now (out .entry)) ⌝ }
 {
     let answers = out.len() / 3;
-    let reasons = out.len() / 14;
+    let reasons = out.len() / 23;
     let room = if telling { reasons } else { answers };
     if input.len() <= room {
         return input.len();
@@ -86,7 +86,8 @@ impl Player {
         self.play(false, input, out)
     }
 
-    // The same, with each answer's reason: whom it names, and for 6 how that one owns the instrument. A line takes up to 14 bytes of the output.
+    // The same, with each answer's reason: whom it names, and for 6 how that one owns the instrument and whether it drains. A line takes up to 23 bytes of the
+    // output.
     pub fn explain(self, input: &[u8], out: &mut [u8]) -> Fed
         ensures { λ r. ⌜ ExplainedAs self (now (input .entry)) (now (out .entry)) r (now (out .exit)) ⌝ }
     {

@@ -33,7 +33,7 @@ impl Player {
         self.ended(false, out)
     }
 
-    // The same, with the answer's reason. The buffer has to have 14 bytes.
+    // The same, with the answer's reason. The buffer has to have 23 bytes.
     pub fn finish_explaining(self, out: &mut [u8]) -> Fed
         ensures { λ r. ⌜ FinishedExplainingAs self (now (out .entry)) r (now (out .exit)) ⌝ }
     {

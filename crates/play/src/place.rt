@@ -38,7 +38,7 @@ fn end_line(
     frame: Frame,
 ) -> u8
     requires { ⌜
-        KnownTable sound (table (now parents) (now states) (now owners) (now index)) × (frame .code ≤ 6)
+        KnownTable sound (table (now parents) (now states) (now owners) (now index)) × (frame .code ≤ 7)
         ⌝ }
     ensures { λ r. ⌜
         LineDone sound (requestIn frame)

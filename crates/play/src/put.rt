@@ -26,7 +26,7 @@ fn put_answer(out: &mut [u8], at: usize, answer: u8)
 
 // The bytes of a reason's text.
 fn put_text(out: &mut [u8], at: usize, text: Text)
-    requires { ⌜ (at + 14 ≤ length (now out)) × (text .size ≤ 14) ⌝ }
+    requires { ⌜ (at + 23 ≤ length (now out)) × (text .size ≤ 23) ⌝ }
     ensures { λ r. ⌜ now (out .exit) ≡ sets (now (out .entry)) at (take (text .size) (text .bytes)) ⌝ }
 {
     let size = text.size;

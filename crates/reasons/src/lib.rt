@@ -1,4 +1,5 @@
-// Who stands in the way (document 02, order 1): a request's answer from a record, whom it names, and for 6 how that one owns the instrument.
+// Who stands in the way (document 02, orders 1 and 2): a request's answer from a record, whom it names, and for 6 how that one owns the instrument and whether
+// it drains.
 mod frame;
 
 use bench::Bench;

@@ -17,7 +17,7 @@ fn longest_chain() -> Bench {
     b
 }
 
-// From 0 it is 63 steps to the top. 0 has no running child and every other number has one.
+// From 0 it is 63 steps to the top. 0 has no running child and every other number has one. All 64 drain under the top.
 fn chain_of_64() {
     let b = longest_chain();
     let written = first(b.write(0, 5));
@@ -27,6 +27,8 @@ fn chain_of_64() {
     let b = then(b.commit(0));
     let b = then(b.write(1, 5));
     let b = then(b.abort(63));
+    fact((b.states[0] == 66) & (b.states[63] == 66));
+    let b = then(b.quiet(63, 5));
     last_fact(same(b, Bench::empty()));
 }
 

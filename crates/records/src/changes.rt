@@ -8,7 +8,7 @@ use trials::show::last;
 use trials::show::last_fact;
 use trials::show::then;
 
-// The answers 1 to 6, each with whether the record came back as it was.
+// The answers 1 to 6 and 10, each with whether the record came back as it was.
 fn refused() {
     let b = busy();
     fact(same(b, first(b.open_top(64))));
@@ -16,6 +16,8 @@ fn refused() {
     fact(same(b, then(b.open_top(3))));
     fact(same(b, then(b.open_sub(10, 3))));
     fact(same(b, then(b.commit(1))));
+    fact(same(b, then(b.quiet(1, 8))));
+    fact(same(b, then(b.quiet(4, 6))));
     let with_9 = then(b.open_top(9));
     fact(same(with_9, then(with_9.read(9, 6))));
     last_fact(same(with_9, then(with_9.write(9, 6))));
@@ -58,23 +60,6 @@ fn commit_of_a_top() {
     let b = then(b.open_top(9));
     let b = then(b.write(9, 5));
     last(b.write(9, 6));
-}
-
-// Abort frees an action and its descendants, running and committed, and leaves the record as it was before they were opened.
-fn abort_of_a_family() {
-    let b = first(Bench::empty().open_top(1));
-    let before = then(b.write(1, 5));
-    let b = then(before.open_sub(2, 1));
-    let b = then(b.open_sub(3, 2));
-    let b = then(b.write(3, 5));
-    let b = then(b.commit(3));
-    let b = then(b.open_sub(4, 2));
-    let b = then(b.open_sub(5, 4));
-    let b = then(b.read(5, 5));
-    let b = then(b.abort(2));
-    fact(same(b, before));
-    let b = then(b.abort(1));
-    last_fact(same(b, Bench::empty()));
 }
 
 // A parent may have many running children: all may read what none has written, and one may write once the others have committed.
@@ -127,7 +112,6 @@ pub(crate) fn changes() {
     asking_again();
     commit_of_a_sub();
     commit_of_a_top();
-    abort_of_a_family();
     reading_siblings();
     nearest_running_heir();
     conflicting_owners();

@@ -1,5 +1,5 @@
 // Records that aren't sound, each made from one that is by a change or two: every request answers 7 and hands back the same record. A line has
-// the answers of the six requests, then whether the record is sound, then whether all six handed it back as it came.
+// the answers of the seven requests, then whether the record is sound, then whether all seven handed it back as it came.
 use bench::Bench;
 use trials::same::same;
 use trials::show::fact;
@@ -7,16 +7,19 @@ use trials::show::first;
 use trials::show::last_fact;
 use trials::show::then;
 
-// A sound record: 1 a running top; under it 2, which runs, and 3, which wrote instrument 6 and is committed.
+// A sound record: 1 a running top; under it 2, which runs, and 3, which wrote instrument 6 and is committed; and 4, which wrote instrument 8 and drains.
 pub(crate) fn busy() -> Bench {
     let b = Bench::empty().open_top(1).bench;
     let b = b.open_sub(2, 1).bench;
     let b = b.open_sub(3, 1).bench;
     let b = b.write(3, 6).bench;
-    b.commit(3).bench
+    let b = b.commit(3).bench;
+    let b = b.open_top(4).bench;
+    let b = b.write(4, 8).bench;
+    b.abort(4).bench
 }
 
-// A record with number n's state and parent as these bytes: a parent's is one more than its number, and 0 for none.
+// A record with number n's state and parent as these bytes: draining under h is h + 3; a parent's is one more than its number, and 0 for none.
 fn with_number(mut b: Bench, n: usize, state: u8, parent: u8) -> Bench {
     b.states[n % 64] = state;
     b.parents[n % 64] = parent;
@@ -30,66 +33,92 @@ fn with_sets(mut b: Bench, i: usize, reads: u64, writes: u64) -> Bench {
     b
 }
 
-// The six requests, each of the same record. Where 1 and 2 are as in `busy` and the record is sound, all are accepted.
-fn six(b: Bench) {
+// The seven requests, each of the same record. Where 1 and 2 are as in `busy`, one that drains under 4 stands in the sets of instrument 8, and the record is
+// sound, all are accepted.
+fn seven(b: Bench) {
     let kept = same(b, first(b.open_top(20)));
     let kept = kept & same(b, then(b.open_sub(21, 2)));
     let kept = kept & same(b, then(b.read(2, 7)));
     let kept = kept & same(b, then(b.write(2, 7)));
     let kept = kept & same(b, then(b.commit(2)));
     let kept = kept & same(b, then(b.abort(1)));
+    let kept = kept & same(b, then(b.quiet(4, 8)));
     fact(b.is_sound());
     last_fact(kept);
 }
 
-// The six requests with numbers that would get 1: 7 comes before it.
-fn six_far(b: Bench) {
+// The seven requests with numbers that would get 1: 7 comes before it.
+fn seven_far(b: Bench) {
     let kept = same(b, first(b.open_top(64)));
     let kept = kept & same(b, then(b.open_sub(4294967295, 64)));
     let kept = kept & same(b, then(b.read(64, 128)));
     let kept = kept & same(b, then(b.write(4294967295, 4294967295)));
     let kept = kept & same(b, then(b.commit(64)));
     let kept = kept & same(b, then(b.abort(4294967295)));
+    let kept = kept & same(b, then(b.quiet(64, 4294967295)));
     fact(b.is_sound());
     last_fact(kept);
 }
 
 // Rules 1 and 2, and bytes that mean nothing.
 fn states_and_sets(b: Bench) {
-    // States are 0 to 2; 3 means nothing.
-    six(with_number(b, 10, 3, 0));
-    six(with_number(b, 10, 255, 0));
+    // States are 0 to 2, and 3 to 66 for draining under 0 to 63: the byte 67 would be under 64.
+    seven(with_number(b, 10, 67, 0));
+    seven(with_number(b, 10, 255, 0));
     // A parent is between 0 and 63: the byte 65 would be 64.
-    six(with_number(b, 10, 1, 65));
-    six(with_number(b, 10, 1, 255));
+    seven(with_number(b, 10, 1, 65));
+    seven(with_number(b, 10, 1, 255));
     // A top action is running.
-    six(with_number(b, 10, 2, 0));
+    seven(with_number(b, 10, 2, 0));
     // A free number has no parent.
-    six(with_number(b, 10, 0, 2));
+    seven(with_number(b, 10, 0, 2));
     // A free number stands in no set: 10 in the first read set, 63 in the last write set.
-    six(with_sets(b, 0, 1024, 0));
-    six(with_sets(b, 127, 0, 9223372036854775808));
+    seven(with_sets(b, 0, 1024, 0));
+    seven(with_sets(b, 127, 0, 9223372036854775808));
 }
 
 // Rules 3 and 4.
 fn parents(b: Bench) {
     // A parent is not free: 10, running and then committed, under the free 11.
-    six(with_number(b, 10, 1, 12));
-    six(with_number(b, 10, 2, 12));
+    seven(with_number(b, 10, 1, 12));
+    seven(with_number(b, 10, 2, 12));
     // From parent to parent a top is reached: not from 10 and 11, each the other's parent, running and then committed.
-    six(with_number(with_number(b, 10, 1, 12), 11, 1, 11));
-    six(with_number(with_number(b, 10, 2, 12), 11, 2, 11));
+    seven(with_number(with_number(b, 10, 1, 12), 11, 1, 11));
+    seven(with_number(with_number(b, 10, 2, 12), 11, 2, 11));
     // A top is not reached from 63, its own parent.
-    six(with_number(b, 63, 1, 64));
+    seven(with_number(b, 63, 1, 64));
     // A running action's parent runs: 10 runs under the committed 3.
-    six(with_number(b, 10, 1, 4));
+    seven(with_number(b, 10, 1, 4));
+}
+
+// Draining numbers.
+fn draining(b: Bench) {
+    // A head drains under itself: 10, which reads instrument 9, under the free 0, the running 1 and the committed 3; under 11, which drains under 4; and under 11,
+    // which drains under 10.
+    let reading = with_sets(b, 9, 1024, 0);
+    seven(with_number(reading, 10, 3, 0));
+    seven(with_number(reading, 10, 4, 0));
+    seven(with_number(reading, 10, 6, 0));
+    seven(with_number(with_number(reading, 10, 14, 0), 11, 7, 0));
+    seven(with_number(with_number(reading, 10, 14, 0), 11, 13, 0));
+    // A group stands in some set: 10 under itself in none, and 4 no longer in the sets of instrument 8.
+    seven(with_number(b, 10, 13, 0));
+    seven(with_sets(b, 8, 0, 0));
+    // A draining number has left the tree: 4 under the running 1.
+    seven(with_number(b, 4, 7, 2));
+    // Nobody's parent drains: 10, running and then committed, under 4.
+    seven(with_number(b, 10, 1, 5));
+    seven(with_number(b, 10, 2, 5));
+    // Of a group one number is enough, and it need not be the head: 10, which drains under 4, in its place. This record is sound.
+    seven(with_sets(with_number(b, 10, 7, 0), 8, 0, 1024));
 }
 
 pub(crate) fn unsound_records() {
     let b = busy();
-    six(b);
+    seven(b);
     states_and_sets(b);
     parents(b);
-    six_far(b);
-    six_far(with_number(b, 10, 3, 0));
+    draining(b);
+    seven_far(b);
+    seven_far(with_number(b, 10, 67, 0));
 }

@@ -1,6 +1,6 @@
 -- What an accepted read or write leaves: the asker stands in the set of the mode asked, whatever else it owns, and asking again changes nothing
 -- further: the same answer on the same bench.
-use mathlib.Core.Path.{_≡_, refl, sym, _∙_, ap}
+use mathlib.Core.Path.{_≡_, refl}
 use mathlib.Core.Bool.{Bool, true, false, _&&_, _||_}
 use Prim.Native.Nat.{ℕ, _<_}
 use borrow.Author.Tests.{eq-eqb, eqb-true, lt-leb}

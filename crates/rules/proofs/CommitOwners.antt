@@ -13,7 +13,7 @@ use Rattle.rules.specs.Requests.{commit, effect}
 use Rattle.rules.specs.Answers.{row}
 use Rattle.rules.specs.Moss.{Owner, OwnerWith}
 use Rattle.rules.proofs.Tests.{by-bool}
-use Rattle.rules.proofs.Walks.{heir-is}
+use Rattle.rules.proofs.Walks.{heir-found}
 use Rattle.rules.proofs.SetForm.{standing-in-use}
 use Rattle.rules.proofs.HeirChanges.{handed, commit-heir}
 use Rattle.rules.proofs.OwnerChanges.{commit-changes-no-set}
@@ -40,11 +40,11 @@ module _ (sh : Shape) (b : Bench) (ok : sound sh b ≡ true) (a p : ℕ) (given 
       forth o =
           let k = o .number in
           let s : b .stands m i k ≡ true = sym (sets k) ∙ o .stands in
-          let found = heir-is sh b ok k (o .known) (standing-in-use sh b ok m i k lm li (o .known) s) in
+          let found = heir-found sh b ok k (o .known) (standing-in-use sh b ok m i k lm li (o .known) s) in
           record {
             before = found .0;
-            owner = record { number = k; known = o .known; stands = s; heirIs = found .1 .is };
-            after = Option·some-injective h (if eqb (found .0) a then p else found .0) (sym (o .heirIs) ∙ heirs k (found .0) (o .known) s (found .1 .is));
+            owner = record { number = k; known = o .known; stands = s; heirIs = found .1 };
+            after = Option·some-injective h (if eqb (found .0) a then p else found .0) (sym (o .heirIs) ∙ heirs k (found .0) (o .known) s (found .1));
           }
 
       back : OwnerWith sh b (b .stands m i) a p h → Owner sh next (next .stands m i) h

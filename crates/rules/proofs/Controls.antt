@@ -3,24 +3,24 @@
 use mathlib.Core.Path.{_≡_, refl}
 use mathlib.Core.Bool.{Bool, true, false, _||_}
 use mathlib.Core.List.{List, [], _∷_, map}
-use mathlib.Core.Option.{Option, some}
+use mathlib.Core.Option.{Option, none, some}
 use Prim.Native.Nat.{ℕ, zero, suc}
 use lib.Dec.{eqb}
 use Rattle.rules.specs.Tests.{if_then_else_, _⇒_, all, any, from}
-use Rattle.rules.specs.Bench.{Shape, State, running, committed, meaningless, Bench, empty}
-use Rattle.rules.specs.Owners.{isChild, above, isAncestor, inFamily, nearest, heir, isAskerOrAncestor, heirInLine, granted, hasRunningChild}
-use Rattle.rules.specs.Requests.{Request, openTop, openSub, commit, effect, put}
-use Rattle.rules.specs.Sound.{meansSomething, standsNowhere, reachesTop, rule1, rule2, rule3, rule4, sound}
-use Rattle.rules.specs.Answers.{rowBy, answerOf, step, after}
+use Rattle.rules.specs.Bench.{Shape, State, free, running, committed, draining, meaningless, isFree, headOf, Bench, empty}
+use Rattle.rules.specs.Owners.{isChild, above, isAncestor, inFamily, nearest, heir, isAskerOrAncestor, heirInLine, granted, hasRunningChild, drainsUnder, standAt, standSomewhere}
+use Rattle.rules.specs.Requests.{Request, openTop, openSub, commit, abort, quiet, put, without, quieted, effect}
+use Rattle.rules.specs.Sound.{meansSomething, standsNowhere, reachesTop, rule1, rule2, rule3, rule4, drainsWell, sound}
+use Rattle.rules.specs.Answers.{rowBy, row, answerOf, step, after}
 use Rattle.rules.specs.SetForm.{upwardWithin, inUpward, downwardWithin, inDownward, grantedBySets}
-use Rattle.rules.specs.ReadWrite.{reading, writing, readWrite, write}
+use Rattle.rules.specs.ReadWrite.{reading, writing, readWrite, read, write}
 
 abbrev pub small : Shape
 small = record { actions = 4; instruments = 2; modes = 2; conflict = readWrite .conflict }
 
 -- the bench that requests leave, from an empty one
 reached : List Request → Bench
-unfolding all any above isAncestor inFamily nearest heir isAskerOrAncestor heirInLine granted hasRunningChild effect standsNowhere reachesTop sound rowBy answerOf step after
+unfolding all any above isAncestor inFamily nearest heir isAskerOrAncestor heirInLine granted hasRunningChild standAt standSomewhere effect standsNowhere reachesTop sound rowBy answerOf step after
 reached rs = after small empty rs
 
 -- top 1; 2 and 3 under 1; write 2, 0
@@ -86,6 +86,61 @@ same-top-grants : (sound small siblings ≡ true) × (granted small siblings rea
 unfolding siblings grantedIf topOf fitsTop
 same-top-grants = (refl, refl, refl)
 
+-- ---- wrong ways to drain
+
+-- tops 0 and 1; 2 and 3 under 1; 0 and 2 read 0; write 2, 1
+beforeAbort : Bench
+unfolding reached
+beforeAbort = reached (openTop 0 ∷ openTop 1 ∷ openSub 2 1 ∷ openSub 3 1 ∷ read 0 0 ∷ read 2 0 ∷ write 2 1 ∷ [])
+
+-- and abort 1: the numbers 1 to 3 drain under 1, of which 2 alone stands in a set
+waiting : Bench
+unfolding reached
+waiting = reached (openTop 0 ∷ openTop 1 ∷ openSub 2 1 ∷ openSub 3 1 ∷ read 0 0 ∷ read 2 0 ∷ write 2 1 ∷ abort 1 ∷ [])
+
+-- the heads of the numbers 0 to 3
+heads : Bench → List (Option ℕ)
+heads b = map (λ k. headOf (b .state k)) (0 ∷ 1 ∷ 2 ∷ 3 ∷ [])
+
+-- The whole family drains; where those in no set are freed at once, 1 and 3 aren't of the group, and 2 has no head.
+only-standing-drain : (heads waiting ≡ none ∷ some 1 ∷ some 1 ∷ some 1 ∷ []) × (sound small waiting ≡ true) × (sound small (without (λ k. eqb k 1 || eqb k 3) waiting) ≡ false)
+unfolding waiting heads
+only-standing-drain = (refl, refl, refl)
+
+-- Top 1; 2 under 1; write 2, 0; abort 2; abort 1: the child has left, drains on under itself, and 1 is free.
+drained-child-has-left : heads (reached (openTop 1 ∷ openSub 2 1 ∷ write 2 0 ∷ abort 2 ∷ abort 1 ∷ [])) ≡ none ∷ none ∷ some 2 ∷ none ∷ []
+unfolding reached heads
+drained-child-has-left = refl
+
+-- An abort that frees all at once gives top 0 what 2's analyzer still works at; so does a rule by which nobody that drains is in the way.
+freed-at-once-grants : (granted small waiting writing 0 1 ≡ false) × (granted small (without (inFamily small beforeAbort 1) beforeAbort) writing 0 1 ≡ true) × (grantedIf (λ a k. heirInLine small waiting a k || from (headOf (waiting .state k)) false (λ h. true)) small waiting writing 0 1 ≡ true)
+unfolding waiting beforeAbort grantedIf
+freed-at-once-grants = (refl, refl, refl)
+
+-- Quiet is said of the head and of an instrument where the group stands: of neither a member nor a number that runs.
+quiet-of-the-head : map (row small waiting) (quiet 1 0 ∷ quiet 1 1 ∷ quiet 2 0 ∷ quiet 3 0 ∷ quiet 0 0 ∷ []) ≡ 0 ∷ 0 ∷ 10 ∷ 10 ∷ 10 ∷ []
+unfolding waiting
+quiet-of-the-head = refl
+
+-- the bench after instrument 0 is quiet for 1, and after instrument 1 is quiet too
+quietOnce : Bench
+unfolding waiting
+quietOnce = effect small waiting (quiet 1 0)
+
+quietTwice : Bench
+unfolding quietOnce
+quietTwice = effect small quietOnce (quiet 1 1)
+
+-- The group leaves instrument 0, where top 0 still reads; it drains on, since 2 stands at instrument 1, and all of it is freed when that is quiet too.
+quiet-by-instrument : (map (quietOnce .stands reading 0) (0 ∷ 2 ∷ []) ≡ true ∷ false ∷ []) × (quietOnce .stands writing 1 2 ≡ true) × (heads quietOnce ≡ heads waiting) × (row small quietOnce (quiet 1 0) ≡ 10) × (map (λ k. isFree (quietTwice .state k)) (0 ∷ 1 ∷ 2 ∷ 3 ∷ []) ≡ false ∷ true ∷ true ∷ true ∷ []) × (quietTwice .stands writing 1 2 ≡ false)
+unfolding quietTwice heads
+quiet-by-instrument = (refl, refl, refl, refl, refl, refl)
+
+-- A group freed at its first quiet gives top 0 what it still works at; a quiet that empties the instrument takes top 0's own place too.
+quiet-too-soon-grants : (granted small quietOnce writing 0 1 ≡ false) × (granted small (without (drainsUnder waiting 1) waiting) writing 0 1 ≡ true) × (quieted (λ k. true) 0 waiting .stands reading 0 0 ≡ false)
+unfolding quietOnce
+quiet-too-soon-grants = (refl, refl, refl)
+
 -- ---- soundness
 
 withState : ℕ → State → Bench → Bench
@@ -111,11 +166,11 @@ damaged b =
     ∷ withParent 3 2 b
     ∷ []
 
--- the rules that a bench breaks, 0 where a state means nothing
+-- the rules that a bench breaks, 0 where a state means nothing, and 5 where a number doesn't drain well
 brokenRules : Bench → List ℕ
 brokenRules b =
     unless (λ k. meansSomething (b .state k)) 0
-    (unless (rule1 b) 1 (unless (rule2 small b) 2 (unless (rule3 small b) 3 (unless (rule4 b) 4 []))))
+    (unless (rule1 b) 1 (unless (rule2 small b) 2 (unless (rule3 small b) 3 (unless (rule4 b) 4 (unless (drainsWell small b) 5 [])))))
   where
     unless : (ℕ → Bool) → ℕ → List ℕ → List ℕ
     unless rule n others = if all (small .actions) rule then others else n ∷ others
@@ -124,6 +179,34 @@ brokenRules b =
 damaged-unsound : (map (sound small) (damaged siblingDone) ≡ map (λ b. false) (damaged siblingDone)) × (map brokenRules (damaged siblingDone) ≡ (0 ∷ []) ∷ (1 ∷ []) ∷ (2 ∷ []) ∷ (2 ∷ []) ∷ (3 ∷ []) ∷ (3 ∷ []) ∷ (3 ∷ []) ∷ (4 ∷ []) ∷ [])
 unfolding siblingDone withState withParent withFreeStanding damaged brokenRules
 damaged-unsound = (refl, refl)
+
+-- top 1; 2 under 1; write 2, 0; abort 1; top 3: the group of 1 stands in a set, and its head does not
+memberStands : Bench
+unfolding reached
+memberStands = reached (openTop 1 ∷ openSub 2 1 ∷ write 2 0 ∷ abort 1 ∷ openTop 3 ∷ [])
+
+emptied : Bench → Bench
+emptied b = record { state = b .state; parent = b .parent; stands = λ m i k. false }
+
+-- That bench with one thing changed: the group in no set; the head free, or running; the head under another that drains, or under one that runs; a head
+-- that the table doesn't have; a member with a parent; a committed number under one that drains, and a running one.
+illDrained : Bench → List Bench
+illDrained b =
+    emptied b
+    ∷ withState 1 free b
+    ∷ withState 1 running b
+    ∷ withState 1 (draining 2) b
+    ∷ withState 1 (draining 3) b
+    ∷ withState 4 (draining 4) (withState 1 (draining 4) (withState 2 (draining 4) b))
+    ∷ withParent 2 3 b
+    ∷ withState 3 committed (withParent 3 1 b)
+    ∷ withParent 3 1 b
+    ∷ []
+
+-- The bench is sound, and none of these is; a head alone in no set isn't either.
+ill-drained-unsound : (sound small memberStands ≡ true) × (map (sound small) (illDrained memberStands) ≡ map (λ b. false) (illDrained memberStands)) × (map brokenRules (illDrained memberStands) ≡ (5 ∷ []) ∷ (5 ∷ []) ∷ (5 ∷ []) ∷ (5 ∷ []) ∷ (5 ∷ []) ∷ (5 ∷ []) ∷ (5 ∷ []) ∷ (3 ∷ []) ∷ (3 ∷ 4 ∷ []) ∷ []) × (brokenRules (withState 1 (draining 1) empty) ≡ 5 ∷ [])
+unfolding memberStands withState withParent emptied illDrained brokenRules
+ill-drained-unsound = (refl, refl, refl, refl)
 
 -- 2 runs under 1, a committed top action that holds instrument 0
 topDone : Bench

@@ -61,6 +61,7 @@ plain-of sh b ok =
       runs = λ k l. refl;
       ancestors = walk-settled sh b ok (λ n k. chain n (b .parent) k)
           (λ m n k. from-cong (b .parent k) [] (λ p above. p ∷ above) (chain m (b .parent)) (chain n (b .parent)));
+      heads = λ k l. refl;
       owns = λ m i h lm li lh. refl;
     }
 
@@ -77,6 +78,7 @@ empty-agrees sh =
       used = λ k l. refl;
       runs = λ k l. refl;
       ancestors = λ k l. refl;
+      heads = λ k l. refl;
       owns = λ m i h lm li lh.
           sym
           (refuted (isOwner sh empty m i h)

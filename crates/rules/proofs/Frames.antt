@@ -1,18 +1,18 @@
 -- What a frame's code says of its request. Assumes nothing.
 use mathlib.Core.Path.{_≡_, refl}
 use mathlib.Core.Bool.{true, false, _||_}
-use mathlib.Core.Option.{Option, none, some}
+use mathlib.Core.Option.{none, some}
 use Prim.Native.Nat.{ℕ, zero, suc, _≤_, _<_}
 use native.Mathlib.Omega.{arith}
 use borrow.Author.Tests.{eqb-true, eqb-false, eq-eqb, ne-eqb}
 use lib.Dec.{eqb}
-use Rattle.rules.specs.Requests.{Request, openTop, openSub, ask, commit, abort}
+use Rattle.rules.specs.Requests.{Request, openTop, openSub, ask, commit, abort, quiet}
 use Rattle.rules.specs.ReadWrite.{modeOf, read, write}
 use Rattle.rules.specs.Frames.{framed}
 use Rattle.rules.proofs.Tests.{by-bool, by-or, clash, or-left, or-right}
 
--- Codes 1 to 6 have a request, and no other code has one.
-pub request-of : (code x y : ℕ) → (code ≡ 0 → ⊥) → code ≤ 6 → (q : Request) × (framed code x y ≡ some q)
+-- Codes 1 to 7 have a request, and no other code has one.
+pub request-of : (code x y : ℕ) → (code ≡ 0 → ⊥) → code ≤ 7 → (q : Request) × (framed code x y ≡ some q)
 request-of zero x y nonzero small = absurd (nonzero refl)
 request-of (suc zero) x y nonzero small = (openTop x, refl)
 request-of (suc (suc zero)) x y nonzero small = (openSub x y, refl)
@@ -20,9 +20,10 @@ request-of (suc (suc (suc zero))) x y nonzero small = (read x y, refl)
 request-of (suc (suc (suc (suc zero)))) x y nonzero small = (write x y, refl)
 request-of (suc (suc (suc (suc (suc zero))))) x y nonzero small = (commit x, refl)
 request-of (suc (suc (suc (suc (suc (suc zero)))))) x y nonzero small = (abort x, refl)
-request-of (suc (suc (suc (suc (suc (suc (suc code))))))) x y nonzero small = absurd (omega arith)
+request-of (suc (suc (suc (suc (suc (suc (suc zero))))))) x y nonzero small = (quiet x y, refl)
+request-of (suc (suc (suc (suc (suc (suc (suc (suc code)))))))) x y nonzero small = absurd (omega arith)
 
-pub unframed : (code x y : ℕ) → 6 < code → framed code x y ≡ none
+pub unframed : (code x y : ℕ) → 7 < code → framed code x y ≡ none
 unframed code x y l =
     rw (
       ne-eqb code 1 (λ e. omega arith),
@@ -31,6 +32,7 @@ unframed code x y l =
       ne-eqb code 4 (λ e. omega arith),
       ne-eqb code 5 (λ e. omega arith),
       ne-eqb code 6 (λ e. omega arith),
+      ne-eqb code 7 (λ e. omega arith),
     )
 
 -- Codes 3 and 4 are asks: to read, and to write.

@@ -12,7 +12,7 @@ use Rattle.rules.specs.Sound.{sound}
 use Rattle.rules.specs.ReadWrite.{reading, writing, readWrite}
 use Rattle.rules.specs.Moss.{Owner, OwnersInLine}
 use Rattle.rules.proofs.Tests.{clash, by-last, implies, implied, all-at, all-by}
-use Rattle.rules.proofs.Walks.{heir-is}
+use Rattle.rules.proofs.Walks.{heir-found}
 use Rattle.rules.proofs.SetForm.{standing-in-use}
 
 -- ---- the table
@@ -71,8 +71,8 @@ module _ (sh : Shape) (b : Bench) (a i : ℕ) where
     owners-heirs : (held : ℕ) → held < sh .modes → OwnersInLine sh b a (b .stands held i) → HeirsInLine held
     unfolding heirInLine
     owners-heirs held lm owners k l s =
-        let found = heir-is sh b ok k l (standing-in-use sh b ok held i k lm li l s) in
-        rw (found .1 .is) (owners (found .0) (record { number = k; known = l; stands = s; heirIs = found .1 .is }))
+        let found = heir-found sh b ok k l (standing-in-use sh b ok held i k lm li l s) in
+        rw (found .1) (owners (found .0) (record { number = k; known = l; stands = s; heirIs = found .1 }))
 
 module _ (b : Bench) (ok : sound readWrite b ≡ true) (a i : ℕ) (li : i < readWrite .instruments) where
   -- A read is granted exactly if every owner of the write set is the asker or an ancestor of it.

@@ -2,22 +2,22 @@
 -- own heirs with it and no others, and committing a sub hands what it was the heir of to its parent.
 use mathlib.Core.Path.{_≡_, refl, sym, _∙_, ap}
 use mathlib.Core.Bool.{Bool, true, false}
-use mathlib.Core.Option.{Option, none, some, Option·some-injective}
+use mathlib.Core.Option.{Option, none, some, Option·none-ne-some, Option·some-injective}
 use Prim.Native.Nat.{ℕ, zero, suc, _<_}
 use lib.Dec.{eqb}
 use borrow.Author.Tests.{eqb-true, eq-eqb, ne-eqb}
 use Rattle.rules.specs.Tests.{if_then_else_, from}
-use Rattle.rules.specs.Bench.{Shape, committed, Bench, isFree, isRunning}
+use Rattle.rules.specs.Bench.{Shape, committed, Bench, isFree, isRunning, headOf, inTree}
 use Rattle.rules.specs.Owners.{isAncestor, inFamily, nearest, heir, granted}
 use Rattle.rules.specs.Sound.{sound}
-use Rattle.rules.specs.Requests.{openTop, openSub, ask, commit, put, without, effect}
+use Rattle.rules.specs.Requests.{openTop, openSub, ask, commit, put, without, drained, effect}
 use Rattle.rules.specs.Answers.{row}
-use Rattle.rules.proofs.Tests.{by-bool, clash, or-left, from-cong}
-use Rattle.rules.proofs.Facts.{SoundNumber, sound-facts}
-use Rattle.rules.proofs.Walks.{climb, ancestor-up, ancestor-irrefl, heir-runs, heir-up}
-use Rattle.rules.proofs.Family.{family-child}
+use Rattle.rules.proofs.Tests.{by-bool, by-parent, clash, refuted, or-left, from-cong}
+use Rattle.rules.proofs.Facts.{tree-in-use, runs-in-tree, tree-headless, in-use-tree, SoundNumber, sound-facts, under-head}
+use Rattle.rules.proofs.Walks.{climb, ancestor-up, ancestor-irrefl, heir-runs, heir-up, heir-drains}
+use Rattle.rules.proofs.Family.{family-child, family-closed}
 use Rattle.rules.proofs.Accepted.{Commits, accepted}
-use Rattle.rules.proofs.Kept.{effect-keeps-sound}
+use Rattle.rules.proofs.Kept.{family-headless, effect-keeps-sound}
 
 -- the heir that a commit of a under p leaves to a number that had heir o
 abbrev pub handed : ℕ → ℕ → Option ℕ → Option ℕ
@@ -34,7 +34,8 @@ commit-sub sh b a p e = rw e
 -- Numbers that keep their states and parents, and whose parents are of them, keep their heirs.
 pub heir-kept : (sh : Shape) (b next : Bench) (Kept : ℕ → Type 0) → ((k : ℕ) → Kept k → next .state k ≡ b .state k) → ((k : ℕ) → Kept k → next .parent k ≡ b .parent k) → ((k p : ℕ) → Kept k → b .parent k ≡ some p → Kept p) → (k : ℕ) → Kept k → heir sh next k ≡ heir sh b k
 unfolding heir nearest
-heir-kept sh b next Kept states parents closed = within (sh .actions)
+heir-kept sh b next Kept states parents closed k s =
+    rw (states k s) (ap (λ o. from (headOf (b .state k)) o (λ h. some h)) (within (sh .actions) k s))
   where
     within : (n k : ℕ) → Kept k → nearest n (next .state) (next .parent) k ≡ nearest n (b .state) (b .parent) k
     within zero k s = refl
@@ -55,7 +56,7 @@ module _ (sh : Shape) (b : Bench) (ok : sound sh b ≡ true) where
   heir-other n next free states parents k l u =
       heir-kept sh b next (λ k. (k < sh .actions) × (isFree (b .state k) ≡ false)) (λ k s. states k (differs k (s .1)))
       (λ k s. parents k (differs k (s .1)))
-      (λ k p s e. (facts k (s .0) .parentKnown p e, facts k (s .0) .parentInUse p e))
+      (λ k p s e. (facts k (s .0) .parentKnown p e, tree-in-use (b .state p) (facts k (s .0) .parentInTree p e)))
       k
       (l, u)
     where
@@ -85,17 +86,44 @@ module _ (sh : Shape) (b : Bench) (ok : sound sh b ≡ true) where
       k
       (l, g)
 
+  -- who drains is in no running action's family
+  pub drains-outside : (a k h : ℕ) → isRunning (b .state a) ≡ true → k < sh .actions → headOf (b .state k) ≡ some h → inFamily sh b a k ≡ false
+  drains-outside a k h runs l e =
+      refuted (inFamily sh b a k) (λ t. Option·none-ne-some h (sym (family-headless sh b ok a k l runs t) ∙ e))
+
   -- The heir of a number in use is in the family of a running action exactly if the number is.
   pub family-heir : (a : ℕ) → isRunning (b .state a) ≡ true → (k : ℕ) → k < sh .actions → isFree (b .state k) ≡ false → (h : ℕ) → heir sh b k ≡ some h → inFamily sh b a h ≡ inFamily sh b a k
-  family-heir a runs =
-      climb sh b ok (λ k. isFree (b .state k) ≡ false → (h : ℕ) → heir sh b k ≡ some h → inFamily sh b a h ≡ inFamily sh b a k)
-      (λ k l e u. itself k l (facts k l .topRuns u e))
-      (λ k p l lp e above u h is. by-bool (isRunning (b .state k)) (λ r. itself k l r h is)
-      (λ r. above (facts k l .parentInUse p e) h (sym (heir-up sh b ok k p l r e) ∙ is)
-      ∙ sym (rw (family-child sh b ok a k p l e, ne-eqb k a (λ q. clash (isRunning (b .state a)) runs (rw q at r))))))
+  family-heir a runs k l u h is =
+      by-parent (headOf (b .state k)) (λ e. in-tree k l (in-use-tree (b .state k) u e) h is)
+      (λ x e. let d = facts k l .drains x e in
+      let same : x ≡ h = Option·some-injective x h (sym (heir-drains sh b ok k x e) ∙ is) in
+      rw (← same) (drains-outside a x x runs (d .headKnown) (under-head b x x (d .headDrains)) ∙ sym (drains-outside a k x runs l e)))
     where
       itself : (k : ℕ) → k < sh .actions → isRunning (b .state k) ≡ true → (h : ℕ) → heir sh b k ≡ some h → inFamily sh b a h ≡ inFamily sh b a k
       itself k l r h is = let own = heir-runs sh b ok k l r in ap (inFamily sh b a) (Option·some-injective h k (sym is ∙ own))
+
+      in-tree : (k : ℕ) → k < sh .actions → inTree (b .state k) ≡ true → (h : ℕ) → heir sh b k ≡ some h → inFamily sh b a h ≡ inFamily sh b a k
+      in-tree =
+          climb sh b ok (λ k. inTree (b .state k) ≡ true → (h : ℕ) → heir sh b k ≡ some h → inFamily sh b a h ≡ inFamily sh b a k)
+          (λ k l e u. itself k l (facts k l .topRuns u e))
+          (λ k p l lp e above u h is. by-bool (isRunning (b .state k)) (λ r. itself k l r h is)
+          (λ r. above (facts k l .parentInTree p e) h (sym (heir-up sh b ok k p l r e) ∙ is)
+          ∙ sym (rw (family-child sh b ok a k p l e, ne-eqb k a (λ q. clash (isRunning (b .state a)) runs (rw q at r))))))
+
+  -- ---- an abort that drains
+
+  -- All of the family have the aborted action for their heir.
+  pub aborted-heir : (a k : ℕ) → inFamily sh b a k ≡ true → heir sh (drained a (inFamily sh b a) b) k ≡ some a
+  unfolding heir
+  aborted-heir a k t = rw t
+
+  -- Others keep theirs.
+  pub drained-heir : (a k : ℕ) → k < sh .actions → inFamily sh b a k ≡ false → heir sh (drained a (inFamily sh b a) b) k ≡ heir sh b k
+  drained-heir a k l g =
+      heir-kept sh b (drained a (inFamily sh b a) b) (λ k. (k < sh .actions) × (inFamily sh b a k ≡ false)) (λ k s. rw (s .1)) (λ k s. rw (s .1))
+      (λ k p s e. (facts k (s .0) .parentKnown p e, family-closed sh b ok a k p (s .0) e (s .1)))
+      k
+      (l, g)
 
   -- ---- commit of a sub
 
@@ -135,12 +163,24 @@ module _ (sh : Shape) (b : Bench) (ok : sound sh b ≡ true) where
           ∙ heir-runs sh next next-ok p lp (rw (parent-differs a p (acts .known) e) rp)
           ∙ sym (rw (heir-runs sh b ok a (acts .known) (acts .runs), eq-eqb a a refl))
 
-      after : (x : ℕ) → x < sh .actions → isFree (b .state x) ≡ false → heir sh next x ≡ handed a p (heir sh b x)
-      after =
-          climb sh b ok (λ x. isFree (b .state x) ≡ false → heir sh next x ≡ handed a p (heir sh b x))
+      -- who drains is no heir of a's
+      drains : (x h : ℕ) → x < sh .actions → headOf (b .state x) ≡ some h → heir sh next x ≡ handed a p (heir sh b x)
+      drains x h l t =
+          let is = heir-drains sh b ok x h t in
+          let rests : (k : ℕ) → headOf (b .state k) ≡ some h → eqb k a ≡ false = λ k own.
+          ne-eqb k a (λ q. Option·none-ne-some h (sym (tree-headless (b .state a) (runs-in-tree (b .state a) (acts .runs))) ∙ rw q at own)) in
+          heir-drains sh next next-ok x h (rw (rests x t) t)
+          ∙ sym (rw (is, rests h (under-head b h h (facts x l .drains h t .headDrains))))
+
+      in-tree : (x : ℕ) → x < sh .actions → inTree (b .state x) ≡ true → heir sh next x ≡ handed a p (heir sh b x)
+      in-tree =
+          climb sh b ok (λ x. inTree (b .state x) ≡ true → heir sh next x ≡ handed a p (heir sh b x))
           (λ x l top u. by-bool (eqb x a) (λ t. rw (eqb-true x a t) mine) (λ t. itself x l t (facts x l .topRuns u top)))
           (λ x q l lq up above u. by-bool (eqb x a) (λ t. rw (eqb-true x a t) mine)
           (λ t. by-bool (isRunning (b .state x)) (itself x l t)
           (λ r. heir-up sh next next-ok x q l (rw t r) up
-          ∙ above (facts x l .parentInUse q up)
+          ∙ above (facts x l .parentInTree q up)
           ∙ sym (ap (handed a p) (heir-up sh b ok x q l r up)))))
+
+      after : (x : ℕ) → x < sh .actions → isFree (b .state x) ≡ false → heir sh next x ≡ handed a p (heir sh b x)
+      after x l u = by-parent (headOf (b .state x)) (λ e. in-tree x l (in-use-tree (b .state x) u e)) (λ h e. drains x h l e)

@@ -21,13 +21,21 @@ pub mod Frames
 -- Kept: every request on a sound bench leaves a sound bench.
 -- Asking: an accepted read or write enters the set, and asking again gives the same answer and the same bench.
 -- Grants: the four entries of the table of conflicts, and the granting rule in document 01's words, without the table.
+-- Draining: a family in no set is freed at once; who drains keeps others from its instruments, keeps its place, and isn't there for any request.
+-- Quieting: nothing drains for ever.
+-- AsBefore: where nobody drains, all is as it was before document 02's order 2.
+-- DrainingControls: stronger claims about who drains, refuted.
 -- SetForm: owner sets held to ancestors, and upward and downward sets, give the rule over heirs.
--- Reasons: whom an answer names, and that answers 1 to 6 always name somebody.
--- ReasonControls: reasons computed, and a stronger claim refuted.
--- Sessions: document 01's sessions marked (P), answered by the step as the document answers them: one computed test.
+-- Reasons: whom an answer names, what is said of an owner that blocks, and that all answers but 0 and 7 name somebody.
+-- ReasonControls: reasons computed, and stronger claims refuted.
+-- Sessions: document 01's sessions marked (P) and those of order 2, answered by the step as the documents answer them: one computed test.
 -- Controls: computed benches that tell the rules from wrong ones near them, and on which soundness holds and fails.
 pub mod Kept
 pub mod Asking
+pub mod Draining
+pub mod Quieting
+pub mod AsBefore
+pub mod DrainingControls
 pub mod SetForm
 pub mod Grants
 pub mod Reasons
@@ -38,6 +46,7 @@ pub mod Controls
 -- HeirChanges: how heirs change with each accepted request.
 -- OwnerChanges: how owners change with each accepted request; a committed sub keeps its sets, and its parent owns what it owned.
 -- CommitOwners: the same of a committed sub in document 01's words, its parent in its place among the owners.
+-- DrainOwners: how owners change with an abort that drains and with quiet.
 -- PlainAnswers: a sound bench and a plain machine that say the same give every request the same answer.
 -- PlainEffects: a sound bench and a plain machine that say the same still do after every accepted request.
 -- DemandTwo: demand 2, the bench and the plain machine of Moss's rules answer every list of requests alike.
@@ -46,6 +55,7 @@ pub mod Controls
 pub mod HeirChanges
 pub mod OwnerChanges
 pub mod CommitOwners
+pub mod DrainOwners
 pub mod PlainAnswers
 pub mod PlainEffects
 pub mod DemandTwo

@@ -2,16 +2,16 @@
 -- each leaves alone.
 use mathlib.Core.Path.{_≡_, refl, _∙_, ap, subst}
 use mathlib.Core.Bool.{Bool, true}
-use mathlib.Core.List.{List, _∷_}
+use mathlib.Core.List.{List, [], _∷_}
 use Prim.Native.Nat.{ℕ}
 use Rattle.rules.specs.Bench.{Shape, Bench, empty}
 use Rattle.rules.specs.Requests.{Request}
 use Rattle.rules.specs.Sound.{sound}
 use Rattle.rules.specs.Answers.{step, answers, after}
-use Rattle.rules.specs.Merging.{names, asksFor, someDoes, Symmetric, Merging, done, first, second, firsts, seconds}
-use Rattle.rules.proofs.Tests.{or-left, or-right}
+use Rattle.rules.specs.Merging.{names, someDoes, Symmetric, Merging, done, first, second, firsts, seconds}
+use Rattle.rules.proofs.Tests.{by-or, or-left, or-right}
 use Rattle.rules.proofs.Kept.{empty-sound, step-keeps-sound}
-use Rattle.rules.proofs.Mix.{mix, Side, Of, Parted, Alone, parted-swap, mix-swap, mix-same}
+use Rattle.rules.proofs.Mix.{mix, Side, asksToOwn, Of, Parted, Alone, parted-swap, mix-swap, mix-same}
 use Rattle.rules.proofs.Alone.{empty-alone, step-alone}
 use Rattle.rules.proofs.MixSteps.{step-own}
 
@@ -19,11 +19,19 @@ use Rattle.rules.proofs.MixSteps.{step-own}
 abbrev pub AllOf : Side → List Request → Type 0
 AllOf s rs = Of s (λ test. someDoes test rs)
 
+-- some request passes a test that follows from one that some request passes
+pub some-follows : (f g : Request → Bool) → ((r : Request) → f r ≡ true → g r ≡ true) →
+    (rs : List Request) → someDoes f rs ≡ true → someDoes g rs ≡ true
+some-follows f g follows [] h = h
+some-follows f g follows (r ∷ rs) h =
+    by-or (f r) (someDoes f rs) h (λ here. or-left (g r) (someDoes g rs) (follows r here))
+    (λ later. or-right (g r) (someDoes g rs) (some-follows f g follows rs later))
+
 -- requests among others that keep to a side keep to it
 of-fewer : (s : Side) (others some : (Request → Bool) → Bool) → ((test : Request → Bool) → some test ≡ true → others test ≡ true) →
     Of s others → Of s some
 of-fewer s others some among of =
-    record { named = λ k h. of .named k (among (names k) h); asked = λ m i h. of .asked m i (among (asksFor m i) h) }
+    record { named = λ k h. of .named k (among (names k) h); asked = λ m i h. of .asked m i (among (asksToOwn m i) h) }
 
 of-head : (s : Side) (r : Request) (rs : List Request) → AllOf s (r ∷ rs) → Of s (λ test. test r)
 of-head s r rs = of-fewer s (λ test. someDoes test (r ∷ rs)) (λ test. test r) (λ test. or-left (test r) (someDoes test rs))

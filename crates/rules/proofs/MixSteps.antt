@@ -1,38 +1,66 @@
 -- A request that keeps to one side steps on the mix of two benches as on its own bench, and leaves the other bench as it was.
-use mathlib.Core.Path.{_≡_, refl, ap}
-use mathlib.Core.Bool.{Bool, true, false, _&&_, and-false, and-true, or-false}
+use mathlib.Core.Path.{_≡_, refl, sym, _∙_, ap}
+use mathlib.Core.Bool.{Bool, true, false, not, _&&_, _||_, and-false, and-true, or-false}
 use mathlib.Core.Option.{none, some}
 use Prim.Native.Nat.{ℕ}
 use lib.Dec.{eqb}
 use borrow.Author.Tests.{eq-eqb}
-use Rattle.rules.specs.Tests.{if_then_else_}
-use Rattle.rules.specs.Bench.{Shape, State, free, running, committed, Bench}
-use Rattle.rules.specs.Owners.{inFamily}
-use Rattle.rules.specs.Requests.{Request, openTop, openSub, ask, commit, abort, put, without, effect}
+use Rattle.rules.specs.Tests.{if_then_else_, any}
+use Rattle.rules.specs.Bench.{Shape, State, free, running, committed, draining, Bench}
+use Rattle.rules.specs.Owners.{inFamily, drainsUnder, standAt, standSomewhere}
+use Rattle.rules.specs.Requests.{Request, openTop, openSub, ask, commit, abort, quiet, put, without, drained, quieted, effect}
 use Rattle.rules.specs.Sound.{sound}
-use Rattle.rules.specs.Answers.{rowBy, row, answerOf, step}
-use Rattle.rules.proofs.Tests.{by-bool, by-parent, or-left, or-right}
+use Rattle.rules.specs.Answers.{tooHigh, noInstrument, rowBy, row, answerOf, step}
+use Rattle.rules.proofs.Tests.{by-bool, by-parent, or-left, or-right, any-cong}
 use Rattle.rules.proofs.Mix.{choose, mix, bench-path, told-apart, Side, Of, Parted, Alone}
-use Rattle.rules.proofs.MixWalks.{family-own, family-other, running-child-own, granted-own}
+use Rattle.rules.proofs.Alone.{family-outside, group-outside}
+use Rattle.rules.proofs.MixWalks.{family-own, group-own, running-child-own, granted-own}
 
 -- what is put at one of the numbers is put into the first
 choose-put : {A : Type 0} (numbers : ℕ → Bool) (n : ℕ) → numbers n ≡ true → (v : A) (f g : ℕ → A) (k : ℕ) →
     put n v (choose numbers f g) k ≡ choose numbers (put n v f) g k
 choose-put numbers n h v f g k = by-bool (numbers k) (λ e. rw e) (λ e. rw (e, told-apart numbers k n e h))
 
--- the numbers that leave are of the first bench
-mix-without : (numbers gone goneFirst : ℕ → Bool) →
-    ((k : ℕ) → numbers k ≡ true → gone k ≡ goneFirst k) → ((k : ℕ) → numbers k ≡ false → gone k ≡ false) →
-    (c d : Bench) → without gone (mix numbers c d) ≡ mix numbers (without goneFirst c) d
-mix-without numbers gone goneFirst first second c d =
-    bench-path (without gone (mix numbers c d)) (mix numbers (without goneFirst c) d)
-    (cleared free (c .state) (d .state))
-    (cleared none (c .parent) (d .parent))
-    (λ m i k. by-bool (numbers k) (λ h. rw (h, first k h)) (λ h. rw (h, second k h) (and-true (d .stands m i k))))
-  where
-    cleared : {A : Type 0} (v : A) (f g : ℕ → A) (k : ℕ) →
-        (if gone k then v else choose numbers f g k) ≡ choose numbers (λ k. if goneFirst k then v else f k) g k
-    cleared v f g k = by-bool (numbers k) (λ h. rw (h, first k h)) (λ h. rw (h, second k h))
+-- What happens to numbers of the first bench alone happens to it: they leave, they drain, they leave the sets of an instrument, and they stand where
+-- they stand in it.
+module _ (numbers group : ℕ → Bool) (outside : (k : ℕ) → numbers k ≡ false → group k ≡ false) where
+  -- each of them gets v
+  choose-changed : {A : Type 0} (v : A) (f g : ℕ → A) (k : ℕ) →
+      (if group k then v else choose numbers f g k) ≡ choose numbers (λ k. if group k then v else f k) g k
+  choose-changed v f g k = by-bool (numbers k) (λ h. rw h) (λ h. rw (h, outside k h))
+
+  mix-without : (c d : Bench) → without group (mix numbers c d) ≡ mix numbers (without group c) d
+  mix-without c d =
+      bench-path (without group (mix numbers c d)) (mix numbers (without group c) d)
+      (choose-changed free (c .state) (d .state))
+      (choose-changed none (c .parent) (d .parent))
+      (λ m i k. by-bool (numbers k) (λ h. rw h) (λ h. rw (h, outside k h) (and-true (d .stands m i k))))
+
+  mix-drained : (a : ℕ) (c d : Bench) → drained a group (mix numbers c d) ≡ mix numbers (drained a group c) d
+  mix-drained a c d =
+      bench-path (drained a group (mix numbers c d)) (mix numbers (drained a group c) d)
+      (choose-changed (draining a) (c .state) (d .state))
+      (choose-changed none (c .parent) (d .parent))
+      (λ m i k. refl)
+
+  mix-quieted : (i : ℕ) (c d : Bench) → quieted group i (mix numbers c d) ≡ mix numbers (quieted group i c) d
+  mix-quieted i c d =
+      bench-path (quieted group i (mix numbers c d)) (mix numbers (quieted group i c) d) (λ k. refl) (λ k. refl)
+      (λ m at k. by-bool (numbers k) (λ h. rw h) (λ h. rw (h, outside k h, and-false (eqb at i)) (and-true (d .stands m at k))))
+
+  mix-stand : (sh : Shape) (c d : Bench) (i : ℕ) → standAt sh (mix numbers c d) group i ≡ standAt sh c group i
+  unfolding standAt
+  mix-stand sh c d i =
+      any-cong (sh .modes) (λ m. any (sh .actions) (λ k. mix numbers c d .stands m i k && group k))
+      (λ m. any (sh .actions) (λ k. c .stands m i k && group k))
+      (λ m l. any-cong (sh .actions) (λ k. mix numbers c d .stands m i k && group k)
+      (λ k. c .stands m i k && group k)
+      (λ k l. by-bool (numbers k) (λ h. rw h) (λ h. rw (h, outside k h, and-false (d .stands m i k)) (sym (and-false (c .stands m i k))))))
+
+  mix-somewhere : (sh : Shape) (c d : Bench) → standSomewhere sh (mix numbers c d) group ≡ standSomewhere sh c group
+  unfolding standSomewhere
+  mix-somewhere sh c d =
+      any-cong (sh .instruments) (standAt sh (mix numbers c d) group) (standAt sh c group) (λ i l. mix-stand sh c d i)
 
 module _ (sh : Shape) (s t : Side) (apart : Parted sh s t) (c d : Bench) (own : Alone sh s c) (other : Alone sh t d) where
   abbrev both : Bench
@@ -51,14 +79,19 @@ module _ (sh : Shape) (s t : Side) (apart : Parted sh s t) (c d : Bench) (own : 
       let h = of .named a (eq-eqb a a refl) in
       rw (h, running-child-own sh s t apart c d own other a h)
   row-own (abort a) of = rw (of .named a (eq-eqb a a refl))
+  row-own (quiet a i) of =
+      let h = of .named a (eq-eqb a a refl) in
+      ap (λ group. quietRow group (standAt sh both group i)) (group-own sh s t apart c d own other a h)
+      ∙ ap (quietRow (drainsUnder c a)) (mix-stand (s .numbers) (drainsUnder c a) (λ k. group-outside sh s c own a k) sh c d i)
+    where
+      quietRow : (ℕ → Bool) → Bool → ℕ
+      quietRow group stands = if tooHigh sh a then 1 else if noInstrument sh i then 2 else if not (group a) || not stands then 10 else 0
 
   -- a family leaves: abort, and commit of a top
   family-leaves : (a : ℕ) → s .numbers a ≡ true → without (inFamily sh both a) both ≡ mix (s .numbers) (without (inFamily sh c a) c) d
   family-leaves a h =
-      mix-without (s .numbers) (inFamily sh both a) (inFamily sh c a) (family-own sh s t apart c d own other a)
-      (λ k. family-other sh s t apart c d own other a k h)
-      c
-      d
+      ap (λ gone. without gone both) (family-own sh s t apart c d own other a h)
+      ∙ mix-without (s .numbers) (inFamily sh c a) (λ k. family-outside sh s c own a k h) c d
 
   -- one number gets another state: open top, and commit of a sub
   state-own : (n : ℕ) → s .numbers n ≡ true → (v : State) →
@@ -68,6 +101,42 @@ module _ (sh : Shape) (s t : Side) (apart : Parted sh s t) (c d : Bench) (own : 
       let marked : Bench → Bench = λ b. record { state = put n v (b .state); parent = b .parent; stands = b .stands } in
       bench-path (marked both) (mix (s .numbers) (marked c) d) (choose-put (s .numbers) n h v (c .state) (d .state)) (λ k. refl)
       (λ m i k. refl)
+
+  -- the family drains where it stands in a set, and else it leaves
+  abort-own : (a : ℕ) → s .numbers a ≡ true → effect sh both (abort a) ≡ mix (s .numbers) (effect sh c (abort a)) d
+  unfolding effect
+  abort-own a h =
+      ap (aborted both) (family-own sh s t apart c d own other a h)
+      ∙ rw (mix-somewhere (s .numbers) family outside sh c d)
+      (by-bool (standSomewhere sh c family) (λ e. rw e (mix-drained (s .numbers) family outside a c d))
+      (λ e. rw e (mix-without (s .numbers) family outside c d)))
+    where
+      family : ℕ → Bool
+      family = inFamily sh c a
+
+      outside : (k : ℕ) → s .numbers k ≡ false → family k ≡ false
+      outside k = family-outside sh s c own a k h
+
+      aborted : Bench → (ℕ → Bool) → Bench
+      aborted b family = if standSomewhere sh b family then drained a family b else without family b
+
+  -- the group leaves the instrument's sets, and where it is left in none it leaves the bench
+  quiet-own : (a i : ℕ) → s .numbers a ≡ true → effect sh both (quiet a i) ≡ mix (s .numbers) (effect sh c (quiet a i)) d
+  unfolding effect
+  quiet-own a i h =
+      ap (λ group. settled group (quieted group i both) both) (group-own sh s t apart c d own other a h)
+      ∙ ap (λ left. settled group left both) (mix-quieted (s .numbers) group outside i c d)
+      ∙ rw (mix-somewhere (s .numbers) group outside sh (quieted group i c) d)
+      (by-bool (standSomewhere sh (quieted group i c) group) (λ e. rw e) (λ e. rw e (mix-without (s .numbers) group outside c d)))
+    where
+      group : ℕ → Bool
+      group = drainsUnder c a
+
+      outside : (k : ℕ) → s .numbers k ≡ false → group k ≡ false
+      outside k = group-outside sh s c own a k
+
+      settled : (ℕ → Bool) → Bench → Bench → Bench
+      settled group left b = if standSomewhere sh left group then left else without group b
 
   effect-own : (r : Request) → Of s (λ test. test r) → effect sh both r ≡ mix (s .numbers) (effect sh c r) d
   unfolding effect
@@ -87,7 +156,8 @@ module _ (sh : Shape) (s t : Side) (apart : Parted sh s t) (c d : Bench) (own : 
       rw h
       (by-parent (c .parent a) (λ e. rw e (family-leaves a h))
       (λ p e. rw e (state-own a h committed)))
-  effect-own (abort a) of = family-leaves a (of .named a (eq-eqb a a refl))
+  effect-own (abort a) of = abort-own a (of .named a (eq-eqb a a refl))
+  effect-own (quiet a i) of = quiet-own a i (of .named a (eq-eqb a a refl))
 
   -- The step of a request of this side, where the mix is sound.
   pub step-own : sound sh both ≡ true → (r : Request) → Of s (λ test. test r) →

@@ -1,14 +1,16 @@
--- What a number of one side meets on the mix of two benches: its ancestors, heirs and children, and what it is granted, are those of its own bench.
-use mathlib.Core.Path.{_≡_, refl, sym, ap}
+-- What a number of one side meets on the mix of two benches: its ancestors, heirs and children, its family and the group that drains under it, and
+-- what it is granted, are those of its own bench.
+use mathlib.Core.Path.{_≡_, refl, sym, _∙_, ap}
 use mathlib.Core.Bool.{true, false, _&&_, _||_, and-false}
 use mathlib.Core.Option.{none, some}
 use Prim.Native.Nat.{ℕ, zero, suc}
 use lib.Dec.{eqb}
 use Rattle.rules.specs.Tests.{if_then_else_, _⇒_, all}
-use Rattle.rules.specs.Bench.{Shape, isRunning, Bench}
-use Rattle.rules.specs.Owners.{isChild, above, isAncestor, inFamily, nearest, heir, isAskerOrAncestor, heirInLine, granted, hasRunningChild}
+use Rattle.rules.specs.Bench.{Shape, isRunning, headOf, Bench}
+use Rattle.rules.specs.Owners.{isChild, above, isAncestor, inFamily, nearest, heir, isAskerOrAncestor, heirInLine, granted, hasRunningChild, drainsUnder}
 use Rattle.rules.proofs.Tests.{by-bool, by-parent, clash, refuted, from-cong, all-cong, any-cong}
 use Rattle.rules.proofs.Mix.{mix, told-apart, Side, Parted, Alone, parted-other}
+use Rattle.rules.proofs.Alone.{family-outside, group-outside}
 
 module _ (sh : Shape) (s t : Side) (apart : Parted sh s t) (c d : Bench) (own : Alone sh s c) (other : Alone sh t d) where
   abbrev both : Bench
@@ -44,14 +46,30 @@ module _ (sh : Shape) (s t : Side) (apart : Parted sh s t) (c d : Bench) (own : 
       (from-cong (c .parent k) none (λ p o. o) (nearest n (both .state) (both .parent)) (nearest n (c .state) (c .parent))
       (λ p e. nearest-own n p (own .parents k p e))))
 
-  pub family-own : (a k : ℕ) → s .numbers k ≡ true → inFamily sh both a k ≡ inFamily sh c a k
+  family-at : (a k : ℕ) → s .numbers k ≡ true → inFamily sh both a k ≡ inFamily sh c a k
   unfolding inFamily isAncestor
-  family-own a k h = rw (above-own (sh .actions) a k h)
+  family-at a k g = rw (above-own (sh .actions) a k g)
 
   -- a number of the other side is of no family of this
-  pub family-other : (a k : ℕ) → s .numbers a ≡ true → s .numbers k ≡ false → inFamily sh both a k ≡ false
+  family-other : (a k : ℕ) → s .numbers a ≡ true → s .numbers k ≡ false → inFamily sh both a k ≡ false
   unfolding inFamily isAncestor
   family-other a k h g = rw (told-apart (s .numbers) k a g h, above-other (sh .actions) a k h g)
+
+  pub family-own : (a : ℕ) → s .numbers a ≡ true → inFamily sh both a ≡ inFamily sh c a
+  family-own a h =
+      λ j k. by-bool (s .numbers k) (family-at a k) (λ g. family-other a k h g ∙ sym (family-outside sh s c own a k h g)) j
+
+  -- a number of this side isn't the head that the other bench gives a number
+  group-other : (a k : ℕ) → s .numbers a ≡ true → drainsUnder d a k ≡ false
+  group-other a k h =
+      by-parent (headOf (d .state k)) (λ e. rw e)
+      (λ x e. rw e (told-apart (s .numbers) x a (parted-other sh s t apart x (other .heads k x e)) h))
+
+  pub group-own : (a : ℕ) → s .numbers a ≡ true → drainsUnder both a ≡ drainsUnder c a
+  group-own a h = λ j k. same k j
+    where
+      same : (k : ℕ) → drainsUnder both a k ≡ drainsUnder c a k
+      same k = by-bool (s .numbers k) (λ g. rw g) (λ g. rw g (group-other a k h ∙ sym (group-outside sh s c own a k g)))
 
   pub running-child-own : (a : ℕ) → s .numbers a ≡ true → hasRunningChild sh both a ≡ hasRunningChild sh c a
   unfolding hasRunningChild
@@ -67,8 +85,8 @@ module _ (sh : Shape) (s t : Side) (apart : Parted sh s t) (c d : Bench) (own : 
   line-own : (a k : ℕ) → s .numbers a ≡ true → s .numbers k ≡ true → heirInLine sh both a k ≡ heirInLine sh c a k
   unfolding heirInLine heir isAskerOrAncestor isAncestor
   line-own a k h g =
-      rw (nearest-own (sh .actions) k g)
-      (from-cong (nearest (sh .actions) (c .state) (c .parent) k) false (λ x met. eqb x a || met)
+      rw (g, nearest-own (sh .actions) k g)
+      (from-cong (heir sh c k) false (λ x met. eqb x a || met)
       (λ x. above (sh .actions) (both .parent) x a)
       (λ x. above (sh .actions) (c .parent) x a)
       (λ x e. above-own (sh .actions) x a h))

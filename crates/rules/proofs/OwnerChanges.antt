@@ -12,10 +12,9 @@ use Rattle.rules.specs.Sound.{sound}
 use Rattle.rules.specs.Requests.{ask, commit, without, effect}
 use Rattle.rules.specs.Answers.{row}
 use Rattle.rules.proofs.Tests.{by-bool, and-left, and-right, and-both, by-or, or-left, or-right, same, any-cong}
-use Rattle.rules.proofs.Walks.{heir-runs, heir-is}
-use Rattle.rules.proofs.Family.{family-closed}
+use Rattle.rules.proofs.Walks.{heir-runs, heir-found}
 use Rattle.rules.proofs.Accepted.{Asks, accepted}
-use Rattle.rules.proofs.Kept.{without-keeps, effect-keeps-sound}
+use Rattle.rules.proofs.Kept.{Leaves, without-keeps, family-leaves, effect-keeps-sound}
 use Rattle.rules.proofs.SetForm.{standing-in-use, heir-owner, owner-heir}
 use Rattle.rules.proofs.HeirChanges.{handed, ask-heir, without-heir, family-heir, commit-sub, commit-heir}
 
@@ -72,36 +71,38 @@ module _ (sh : Shape) (b : Bench) (ok : sound sh b ≡ true) where
           let q : k ≡ a = eqb-true k a (and-right (eqb held m && eqb at i) (eqb k a) s) in
           Option·some-injective k h (ap some q ∙ sym own ∙ ap (heir sh b) (sym q) ∙ is)
 
-  -- a family that leaves owns nothing, and all others own what they did
-  pub without-owners : (a : ℕ) → isRunning (b .state a) ≡ true → (m i h : ℕ) → m < sh .modes → i < sh .instruments → isOwner sh (without (inFamily sh b a) b) m i h ≡ (isOwner sh b m i h && not (inFamily sh b a h))
-  without-owners a runs m i h lm li =
-      same (isOwner sh next m i h) (isOwner sh b m i h && not (inFamily sh b a h))
+  -- Numbers that leave own nothing through their heirs, and all others own what they did, where a number in a set and its heir leave or stay together:
+  -- `out` tells of the heirs.
+  pub leaving-owners : (gone out : ℕ → Bool) → Leaves sh b ok gone → ((k h : ℕ) → k < sh .actions → isFree (b .state k) ≡ false → heir sh b k ≡ some h → out h ≡ gone k) → (m i h : ℕ) → m < sh .modes → i < sh .instruments → isOwner sh (without gone b) m i h ≡ (isOwner sh b m i h && not (out h))
+  leaving-owners gone out leaves together m i h lm li =
+      same (isOwner sh next m i h) (isOwner sh b m i h && not (out h))
       (λ o. let t = owner-heir sh next next-ok m i h o in
       let k = t .0 in
-      let s = and-left (b .stands m i k) (not (inFamily sh b a k)) (t .2) in
-      let stays = not-true (inFamily sh b a k) (and-right (b .stands m i k) (not (inFamily sh b a k)) (t .2)) in
+      let s = and-left (b .stands m i k) (not (gone k)) (t .2) in
+      let stays = not-true (gone k) (and-right (b .stands m i k) (not (gone k)) (t .2)) in
       let is = sym (kept k (t .1) stays) ∙ t .3 in
-      and-both (isOwner sh b m i h) (not (inFamily sh b a h)) (heir-owner sh b ok m i k h (t .1) s is) (rw (alike k (t .1) s is, stays)))
-      (λ o. let t = owner-heir sh b ok m i h (and-left (isOwner sh b m i h) (not (inFamily sh b a h)) o) in
+      and-both (isOwner sh b m i h) (not (out h)) (heir-owner sh b ok m i k h (t .1) s is) (rw (alike k (t .1) s is, stays)))
+      (λ o. let t = owner-heir sh b ok m i h (and-left (isOwner sh b m i h) (not (out h)) o) in
       let k = t .0 in
-      let stays = sym (alike k (t .1) (t .2) (t .3)) ∙ not-true (inFamily sh b a h) (and-right (isOwner sh b m i h) (not (inFamily sh b a h)) o) in
+      let stays = sym (alike k (t .1) (t .2) (t .3)) ∙ not-true (out h) (and-right (isOwner sh b m i h) (not (out h)) o) in
       heir-owner sh next next-ok m i k h (t .1) (rw (t .2, stays)) (kept k (t .1) stays ∙ t .3))
     where
       next : Bench
-      next = without (inFamily sh b a) b
-
-      closed : (k p : ℕ) → k < sh .actions → b .parent k ≡ some p → inFamily sh b a k ≡ false → inFamily sh b a p ≡ false
-      closed k p l e = family-closed sh b ok a k p l e
+      next = without gone b
 
       next-ok : sound sh next ≡ true
-      next-ok = without-keeps sh b ok (inFamily sh b a) closed
+      next-ok = without-keeps sh b ok gone leaves
 
-      kept : (k : ℕ) → k < sh .actions → inFamily sh b a k ≡ false → heir sh next k ≡ heir sh b k
-      kept = without-heir sh b ok (inFamily sh b a) closed
+      kept : (k : ℕ) → k < sh .actions → gone k ≡ false → heir sh next k ≡ heir sh b k
+      kept = without-heir sh b ok gone (leaves .parentStays)
 
-      -- a number in a set and its heir leave or stay together
-      alike : (k : ℕ) → k < sh .actions → b .stands m i k ≡ true → heir sh b k ≡ some h → inFamily sh b a h ≡ inFamily sh b a k
-      alike k l s is = family-heir sh b ok a runs k l (standing-in-use sh b ok m i k lm li l s) h is
+      alike : (k : ℕ) → k < sh .actions → b .stands m i k ≡ true → heir sh b k ≡ some h → out h ≡ gone k
+      alike k l s is = together k h l (standing-in-use sh b ok m i k lm li l s) is
+
+  -- a family that leaves owns nothing, and all others own what they did
+  pub without-owners : (a : ℕ) → isRunning (b .state a) ≡ true → (m i h : ℕ) → m < sh .modes → i < sh .instruments → isOwner sh (without (inFamily sh b a) b) m i h ≡ (isOwner sh b m i h && not (inFamily sh b a h))
+  without-owners a runs =
+      leaving-owners (inFamily sh b a) (inFamily sh b a) (family-leaves sh b ok a runs) (λ k h l u. family-heir sh b ok a runs k l u h)
 
   -- Yet the locks of a committed subaction count as its parent's: it owns nothing, and its parent owns what it did.
   pub commit-counts-as-parents : (a p : ℕ) → row sh b (commit a) ≡ 0 → b .parent a ≡ some p → (m i h : ℕ) → m < sh .modes → i < sh .instruments → h < sh .actions → isOwner sh (effect sh b (commit a)) m i h ≡ ((isOwner sh b m i h && not (eqb h a)) || (eqb h p && isOwner sh b m i a))
@@ -142,10 +143,10 @@ module _ (sh : Shape) (b : Bench) (ok : sound sh b ≡ true) where
       forth t =
           let k = t .0 in
           let s : b .stands m i k ≡ true = sym (sets k) ∙ t .2 in
-          let found = heir-is sh b ok k (t .1) (standing-in-use sh b ok m i k lm li (t .1) s) in
+          let found = heir-found sh b ok k (t .1) (standing-in-use sh b ok m i k lm li (t .1) s) in
           let x = found .0 in
-          let owns = heir-owner sh b ok m i k x (t .1) s (found .1 .is) in
-          let is : handed a p (some x) ≡ some h = sym (heirs k (t .1) s ∙ ap (handed a p) (found .1 .is)) ∙ t .3 in
+          let owns = heir-owner sh b ok m i k x (t .1) s (found .1) in
+          let is : handed a p (some x) ≡ some h = sym (heirs k (t .1) s ∙ ap (handed a p) (found .1)) ∙ t .3 in
           by-bool (eqb x a)
           (λ q. or-right stays inherits
           (and-both (eqb h p) (isOwner sh b m i a) (eq-eqb h p (sym (Option·some-injective p h (rw q at is)))) (rw (eqb-true x a q) at owns)))

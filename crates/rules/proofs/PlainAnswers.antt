@@ -9,16 +9,17 @@ use lib.Dec.{eqb}
 use borrow.Author.Tests.{leb-false}
 use Rattle.rules.specs.Tests.{_⇒_, all}
 use Rattle.rules.specs.Bench.{Shape, Bench, isRunning}
-use Rattle.rules.specs.Owners.{isChild, isAncestor, inFamily, isOwner, isAskerOrAncestor, granted, hasRunningChild}
+use Rattle.rules.specs.Owners.{isChild, isAncestor, inFamily, isOwner, isAskerOrAncestor, granted, hasRunningChild, drainsUnder, standAt}
 use Rattle.rules.specs.Sound.{sound}
 use Rattle.rules.specs.SetForm.{grantedByOwners}
-use Rattle.rules.specs.Requests.{Request, openTop, openSub, ask, commit, abort}
+use Rattle.rules.specs.Requests.{Request, openTop, openSub, ask, commit, abort, quiet}
 use Rattle.rules.specs.Answers.{tooHigh, noInstrument, rowBy, row}
-use Rattle.rules.specs.Plain.{Plain, isIn, isParent, mayOwn, runningChild, plainAnswer}
+use Rattle.rules.specs.Plain.{Plain, isIn, isParent, mayOwn, runningChild, waitsWith, ownsAt, plainFamily, plainAnswer}
 use Rattle.rules.specs.Agrees.{Agrees}
 use Rattle.rules.proofs.Tests.{by-bool, by-parent, or-fails-left, or-fails-right, all-cong, any-cong}
 use Rattle.rules.proofs.Walks.{climb, ancestor-none, ancestor-up}
 use Rattle.rules.proofs.SetForm.{owner-form}
+use Rattle.rules.proofs.DrainOwners.{group-stands-at}
 
 module _ (sh : Shape) (b : Bench) (s : Plain) (ok : sound sh b ≡ true) (agrees : Agrees sh b s) where
   pub top-ancestors : (k : ℕ) → k < sh .actions → b .parent k ≡ none → s .ancestors k ≡ []
@@ -33,7 +34,7 @@ module _ (sh : Shape) (b : Bench) (s : Plain) (ok : sound sh b ≡ true) (agrees
       (λ k l e. ap (isIn x) (top-ancestors k l e) ∙ sym (ancestor-none sh b ok x k e))
       (λ k p l lp e above. ap (isIn x) (child-ancestors k p l e) ∙ rw (above, ancestor-up sh b ok x k p l e))
 
-  pub family-same : (a k : ℕ) → k < sh .actions → (eqb k a || isIn a (s .ancestors k)) ≡ inFamily sh b a k
+  pub family-same : (a k : ℕ) → k < sh .actions → plainFamily s a k ≡ inFamily sh b a k
   unfolding inFamily
   family-same a k l = rw (ancestors-same a k l)
 
@@ -61,6 +62,15 @@ module _ (sh : Shape) (b : Bench) (s : Plain) (ok : sound sh b ≡ true) (agrees
       (λ h lh. rw (agrees .owns held i h lm li lh, ancestors-same h a la))))
       ∙ owner-form sh b ok m a i li
 
+  pub group-same : (a k : ℕ) → k < sh .actions → waitsWith s a k ≡ drainsUnder b a k
+  group-same a k l = rw (agrees .heads k l)
+
+  owns-same : (a i : ℕ) → a < sh .actions → i < sh .instruments → drainsUnder b a a ≡ true → ownsAt sh s a i ≡ standAt sh b (drainsUnder b a) i
+  unfolding ownsAt
+  owns-same a i la li drains =
+      any-cong (sh .modes) (λ m. s .owns m i a) (λ m. isOwner sh b m i a) (λ m lm. agrees .owns m i a lm li la)
+      ∙ group-stands-at sh b ok a la drains (b .stands) (λ m i k h. h) i li
+
   pub answer-same : (r : Request) → row sh b r ≡ plainAnswer sh s r
   unfolding rowBy plainAnswer
   answer-same (openTop n) =
@@ -81,3 +91,9 @@ module _ (sh : Shape) (b : Bench) (s : Plain) (ok : sound sh b ≡ true) (agrees
       by-bool (tooHigh sh a) (λ t. rw t) (λ t. rw (t, agrees .runs a (leb-false (sh .actions) a t), child-same a))
   answer-same (abort a) =
       by-bool (tooHigh sh a) (λ t. rw t) (λ t. rw (t, agrees .runs a (leb-false (sh .actions) a t)))
+  answer-same (quiet a i) =
+      by-bool (tooHigh sh a) (λ t. rw t)
+      (λ t. by-bool (noInstrument sh i) (λ u. rw (t, u))
+      (λ u. let la = leb-false (sh .actions) a t in
+      rw (t, u, group-same a a la)
+      (by-bool (drainsUnder b a a) (λ d. rw (d, owns-same a i la (leb-false (sh .instruments) i u) d)) (λ d. rw d))))

@@ -7,25 +7,27 @@ use native.Mathlib.Omega.{arith}
 use lib.Dec.{eqb}
 use borrow.Author.Tests.{eqb-true, eq-eqb}
 use Rattle.rules.specs.Tests.{_⇒_, all, from}
-use Rattle.rules.specs.Bench.{Shape, State, free, running, committed, meaningless, Bench, isFree, isRunning, isCommitted}
+use Rattle.rules.specs.Bench.{Shape, State, free, running, committed, meaningless, Bench, isFree, isRunning, isCommitted, headOf, inTree, draining}
 use Rattle.rules.specs.Owners.{isChild, isAncestor, heir, isOwner, isAskerOrAncestor, granted, heirInLine}
 use Rattle.rules.specs.Sound.{meansSomething, reachesTop, sound}
 use Rattle.rules.specs.SetForm.{grantedByOwners, upwardWithin, inUpward, downwardWithin, inDownward, grantedBySets}
 use Rattle.rules.proofs.Tests.{by-bool, by-parent, clash, and-left, and-right, by-or, or-left, or-right, implies, implied, refuted, from-at, from-cong, all-at, all-by, any-at, any-by, same, all-cong}
-use Rattle.rules.proofs.Facts.{SoundNumber, sound-facts}
-use Rattle.rules.proofs.Walks.{climb, walk-settled, ancestor-none, ancestor-up, heir-runs, heir-up, heir-is}
+use Rattle.rules.proofs.Facts.{in-use-tree, SoundNumber, sound-facts}
+use Rattle.rules.proofs.Walks.{climb, walk-settled, ancestor-none, ancestor-up, heir-runs, heir-up, heir-found, drains-not-for}
 
--- a number in use that isn't running is committed
-in-use-committed : (s : State) → meansSomething s ≡ true → isFree s ≡ false → isRunning s ≡ false → isCommitted s ≡ true
-in-use-committed free m f r = clash true refl f
-in-use-committed running m f r = clash true refl r
-in-use-committed committed m f r = refl
-in-use-committed (meaningless n) m f r = m
+-- a number of the tree that isn't running is committed
+resting-committed : (s : State) → meansSomething s ≡ true → inTree s ≡ true → isRunning s ≡ false → isCommitted s ≡ true
+resting-committed free m t r = t
+resting-committed running m t r = clash true refl r
+resting-committed committed m t r = refl
+resting-committed (draining h) m t r = t
+resting-committed (meaningless n) m t r = m
 
 committed-rests : (s : State) → isCommitted s ≡ true → isRunning s ≡ false
 committed-rests free c = refl
 committed-rests running c = sym c
 committed-rests committed c = refl
+committed-rests (draining h) c = refl
 committed-rests (meaningless n) c = refl
 
 -- a number that is there and equals a
@@ -132,10 +134,10 @@ module _ (sh : Shape) (b : Bench) (ok : sound sh b ≡ true) where
     where
       heirs : all (sh .actions) (λ h. isOwner sh b m i h ⇒ isAskerOrAncestor sh b a h) ≡ true → (k : ℕ) → k < sh .actions → b .stands m i k ≡ true → heirInLine sh b a k ≡ true
       heirs t k lk s =
-          let found = heir-is sh b ok k lk (standing-in-use m i k lm li lk s) in
+          let found = heir-found sh b ok k lk (standing-in-use m i k lm li lk s) in
           let h = found .0 in
-          heir-line a k h (found .1 .is)
-          ∙ implies (isOwner sh b m i h) (isAskerOrAncestor sh b a h) (all-at _ _ t h (found .1 .known)) (heir-owner m i k h lk s (found .1 .is))
+          heir-line a k h (found .1)
+          ∙ implies (isOwner sh b m i h) (isAskerOrAncestor sh b a h) (all-at _ _ t h (found .2)) (heir-owner m i k h lk s (found .1))
 
       owners : all (sh .actions) (λ k. b .stands m i k ⇒ heirInLine sh b a k) ≡ true → (h : ℕ) → isOwner sh b m i h ≡ true → isAskerOrAncestor sh b a h ≡ true
       owners t h o =
@@ -160,12 +162,12 @@ module _ (sh : Shape) (b : Bench) (ok : sound sh b ≡ true) where
       let up : heir sh b c ≡ heir sh b a = heir-up sh b ok c a (t .known) (committed-rests (b .state c) (t .rests)) (t .child) in
       by-or (eqb x c) (upwardWithin n sh b c x) (t .below) (λ q. rw (eqb-true x c q) up) (λ q. upward-heir n c x q ∙ up)
 
-  resting-parent : (k : ℕ) → k < sh .actions → isFree (b .state k) ≡ false → isRunning (b .state k) ≡ false → (p : ℕ) × (b .parent k ≡ some p)
+  resting-parent : (k : ℕ) → k < sh .actions → inTree (b .state k) ≡ true → isRunning (b .state k) ≡ false → (p : ℕ) × (b .parent k ≡ some p)
   resting-parent k l u r =
       by-parent (b .parent k) (λ e. clash (isRunning (b .state k)) (facts k l .topRuns u e) r) (λ p e. (p, e))
 
   -- a committed number that reaches its top action within n steps stands in the upward set of its heir, of depth suc n
-  heir-upward : (n a k : ℕ) → k < sh .actions → isFree (b .state k) ≡ false → isRunning (b .state k) ≡ false → reachesTop n (b .parent) k ≡ true → heir sh b k ≡ some a → upwardWithin (suc n) sh b a k ≡ true
+  heir-upward : (n a k : ℕ) → k < sh .actions → inTree (b .state k) ≡ true → isRunning (b .state k) ≡ false → reachesTop n (b .parent) k ≡ true → heir sh b k ≡ some a → upwardWithin (suc n) sh b a k ≡ true
   unfolding reachesTop
   heir-upward zero a k l u r t h =
       let s = resting-parent k l u r in
@@ -175,11 +177,11 @@ module _ (sh : Shape) (b : Bench) (ok : sound sh b ≡ true) where
       let p = s .0 in
       let e : b .parent k ≡ some p = s .1 in
       let lp = facts k l .parentKnown p e in
-      let c = in-use-committed (b .state k) (facts k l .means) u r in
+      let c = resting-committed (b .state k) (facts k l .means) u r in
       let hp : heir sh b p ≡ some a = sym (heir-up sh b ok k p l r e) ∙ h in
       by-bool (isRunning (b .state p)) (λ rp. upward-child sh b k l c (suc n) a (e ∙ sym (heir-runs sh b ok p lp rp) ∙ hp))
       (λ rp. upward-grows sh b k l c (suc n) a p e
-      (heir-upward n a p lp (facts k l .parentInUse p e) rp (from-at (b .parent k) (reachesTop n (b .parent)) t p e) hp))
+      (heir-upward n a p lp (facts k l .parentInTree p e) rp (from-at (b .parent k) (reachesTop n (b .parent)) t p e) hp))
 
   -- running a, with its upward set, is what has a for its heir
   own-part : (a k h : ℕ) → a < sh .actions → isRunning (b .state a) ≡ true → k < sh .actions → isFree (b .state k) ≡ false → heir sh b k ≡ some h → (eqb k a || inUpward sh b a k) ≡ eqb h a
@@ -192,8 +194,12 @@ module _ (sh : Shape) (b : Bench) (ok : sound sh b ≡ true) where
       by-bool (isRunning (b .state k))
       (λ q. let own : heir sh b k ≡ some k = heir-runs sh b ok k lk q in or-left (eqb k a) (upwardWithin (sh .actions) sh b a k) (eq-eqb k a (cc)))
       (λ q. or-right (eqb k a) (upwardWithin (sh .actions) sh b a k)
-      (ap (λ n. upwardWithin n sh b a k) size ∙ heir-upward (sh .actions - 1) a k lk u q (facts k lk .endsAtTop) (cc))))
+      (ap (λ n. upwardWithin n sh b a k) size ∙ heir-upward (sh .actions - 1) a k lk (stays (e ∙ ap some s)) q (facts k lk .endsAtTop) (cc))))
     where
+      -- what has a for its heir is in the tree
+      stays : heir sh b k ≡ some a → inTree (b .state k) ≡ true
+      stays is = in-use-tree (b .state k) u (by-parent (headOf (b .state k)) (λ t. t) (λ x t. absurd (drains-not-for sh b ok a k x lk r t is)))
+
       size : sh .actions ≡ suc (sh .actions - 1)
       size = omega arith
 
@@ -231,9 +237,9 @@ module _ (sh : Shape) (b : Bench) (ok : sound sh b ≡ true) where
   pub cover : (a k : ℕ) → a < sh .actions → isRunning (b .state a) ≡ true → k < sh .actions → isFree (b .state k) ≡ false → (inDownward sh b a k || eqb k a || inUpward sh b a k) ≡ heirInLine sh b a k
   unfolding isAskerOrAncestor
   cover a k l r lk u =
-      let found = heir-is sh b ok k lk u in
+      let found = heir-found sh b ok k lk u in
       let h = found .0 in
-      let e = found .1 .is in
+      let e = found .1 in
       rw (or-assoc (inDownward sh b a k) (eqb k a) (inUpward sh b a k), own-part a k h l r lk u e, downward-part k h lk u e a l r, heir-line a k h e)
       (or-comm (isAncestor sh b h a) (eqb h a))
 

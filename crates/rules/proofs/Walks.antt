@@ -1,17 +1,17 @@
 -- Going up from parent to parent in a sound bench: laws of ancestors and heirs that mention no number of steps, and induction along parents.
 use mathlib.Core.Path.{_≡_, refl, sym, _∙_, ap}
 use mathlib.Core.Bool.{true, false, _||_}
-use mathlib.Core.Option.{Option, none, some}
+use mathlib.Core.Option.{Option, none, some, Option·none-ne-some, Option·some-injective}
 use Prim.Native.Nat.{ℕ, zero, suc, _<_, _-_}
 use native.Mathlib.Omega.{arith}
 use lib.Dec.{eqb}
 use borrow.Author.Tests.{eqb-true, eq-eqb}
 use Rattle.rules.specs.Tests.{if_then_else_, from}
-use Rattle.rules.specs.Bench.{Shape, Bench, isFree, isRunning}
+use Rattle.rules.specs.Bench.{Shape, Bench, isFree, isRunning, headOf, inTree}
 use Rattle.rules.specs.Owners.{above, isAncestor, nearest, heir, isAskerOrAncestor}
 use Rattle.rules.specs.Sound.{reachesTop, sound}
 use Rattle.rules.proofs.Tests.{by-bool, by-parent, clash, by-or, or-left, or-right, refuted, from-at, from-cong, from-none}
-use Rattle.rules.proofs.Facts.{SoundNumber, sound-facts}
+use Rattle.rules.proofs.Facts.{tree-in-use, runs-in-tree, tree-headless, in-use-tree, SoundNumber, sound-facts, under-head}
 
 -- how many steps up from k there are, n at most
 unfoldable pub stepsUp : ℕ → (ℕ → Option ℕ) → ℕ → ℕ
@@ -106,9 +106,13 @@ module _ (sh : Shape) (b : Bench) (ok : sound sh b ≡ true) where
       h
       r
 
+  -- an ancestor is in the tree: a number that drains is nobody's
+  pub ancestor-in-tree : (x k : ℕ) → k < sh .actions → isAncestor sh b x k ≡ true → inTree (b .state x) ≡ true
+  ancestor-in-tree =
+      ancestor-climb (λ k x. inTree (b .state x) ≡ true) (λ k p l lp e. facts k l .parentInTree p e) (λ k p x l lp e h. h)
+
   pub ancestor-in-use : (x k : ℕ) → k < sh .actions → isAncestor sh b x k ≡ true → isFree (b .state x) ≡ false
-  ancestor-in-use =
-      ancestor-climb (λ k x. isFree (b .state x) ≡ false) (λ k p l lp e. facts k l .parentInUse p e) (λ k p x l lp e h. h)
+  ancestor-in-use x k l h = tree-in-use (b .state x) (ancestor-in-tree x k l h)
 
   pub ancestor-trans : (x y z : ℕ) → z < sh .actions → isAncestor sh b x y ≡ true → isAncestor sh b y z ≡ true → isAncestor sh b x z ≡ true
   ancestor-trans x y z l h g =
@@ -133,26 +137,44 @@ module _ (sh : Shape) (b : Bench) (ok : sound sh b ≡ true) where
 
   -- ---- heirs
 
-  heir-settled : (k : ℕ) → k < sh .actions → heir sh b k ≡ (if isRunning (b .state k) then some k else from (b .parent k) none (λ p. heir sh b p))
-  unfolding heir nearest
-  heir-settled =
+  unfoldable pub nearestOf : ℕ → Option ℕ
+  nearestOf k = nearest (sh .actions) (b .state) (b .parent) k
+
+  nearest-settled : (k : ℕ) → k < sh .actions → nearestOf k ≡ (if isRunning (b .state k) then some k else from (b .parent k) none nearestOf)
+  unfolding nearestOf nearest
+  nearest-settled =
       walk-settled (λ n k. nearest n (b .state) (b .parent) k)
       (λ m n k h. ap (λ o. if isRunning (b .state k) then some k else o)
       (from-cong (b .parent k) none (λ p o. o) (nearest m (b .state) (b .parent)) (nearest n (b .state) (b .parent)) h))
 
+  heir-nearest : (k : ℕ) → headOf (b .state k) ≡ none → heir sh b k ≡ nearestOf k
+  unfolding heir nearestOf
+  heir-nearest k e = rw e
+
+  pub heir-drains : (k h : ℕ) → headOf (b .state k) ≡ some h → heir sh b k ≡ some h
+  unfolding heir
+  heir-drains k h e = rw e
+
+  -- a number with a parent doesn't drain
+  pub child-headless : (k p : ℕ) → k < sh .actions → b .parent k ≡ some p → headOf (b .state k) ≡ none
+  child-headless k p l e = by-parent (headOf (b .state k)) (λ t. t) (λ h t. absurd (Option·none-ne-some p (sym (facts k l .drains h t .noParent) ∙ e)))
+
   pub heir-runs : (k : ℕ) → k < sh .actions → isRunning (b .state k) ≡ true → heir sh b k ≡ some k
-  heir-runs k l h = heir-settled k l ∙ rw h
+  heir-runs k l h = heir-nearest k (tree-headless (b .state k) (runs-in-tree (b .state k) h)) ∙ nearest-settled k l ∙ rw h
 
   pub heir-up : (k p : ℕ) → k < sh .actions → isRunning (b .state k) ≡ false → b .parent k ≡ some p → heir sh b k ≡ heir sh b p
-  heir-up k p l h e = heir-settled k l ∙ rw (h, e)
+  heir-up k p l h e =
+      heir-nearest k (child-headless k p l e)
+      ∙ nearest-settled k l
+      ∙ rw (h, e) (sym (heir-nearest p (tree-headless (b .state p) (facts k l .parentInTree p e))))
 
-  -- a number that isn't free has an heir
-  pub heir-is : (k : ℕ) → k < sh .actions → isFree (b .state k) ≡ false → (h : ℕ) × IsHeir sh b k h
+  -- a number of the tree has an heir
+  pub heir-is : (k : ℕ) → k < sh .actions → inTree (b .state k) ≡ true → (h : ℕ) × IsHeir sh b k h
   unfolding isAskerOrAncestor
   heir-is =
-      climb (λ k. isFree (b .state k) ≡ false → (h : ℕ) × IsHeir sh b k h) (λ k l e u. (k, itself k l (facts k l .topRuns u e)))
+      climb (λ k. inTree (b .state k) ≡ true → (h : ℕ) × IsHeir sh b k h) (λ k l e u. (k, itself k l (facts k l .topRuns u e)))
       (λ k p l lp e above u. by-bool (isRunning (b .state k)) (λ r. (k, itself k l r))
-      (λ s. let found = above (facts k l .parentInUse p e) in (found .0, inherited k p (found .0) l e s (found .1))))
+      (λ s. let found = above (facts k l .parentInTree p e) in (found .0, inherited k p (found .0) l e s (found .1))))
     where
       itself : (k : ℕ) → k < sh .actions → isRunning (b .state k) ≡ true → IsHeir sh b k k
       itself k l r =
@@ -169,3 +191,17 @@ module _ (sh : Shape) (b : Bench) (ok : sound sh b ≡ true) where
                 (by-or (eqb h p) (isAncestor sh b h p) (i .inLine) (λ q. or-left (eqb p h) (isAncestor sh b h p) (eq-eqb p h (sym (eqb-true h p q))))
                 (or-right (eqb p h) (isAncestor sh b h p))));
           }
+
+  -- a number that isn't free has an heir, running or draining, that is one of the table's
+  pub heir-found : (k : ℕ) → k < sh .actions → isFree (b .state k) ≡ false → (h : ℕ) × (heir sh b k ≡ some h) × (h < sh .actions)
+  heir-found k l u =
+      by-parent (headOf (b .state k))
+      (λ e. let found = heir-is k l (in-use-tree (b .state k) u e) in (found .0, found .1 .is, found .1 .known))
+      (λ h e. (h, heir-drains k h e, facts k l .drains h e .headKnown))
+
+  -- a running number isn't the heir of one that drains
+  pub drains-not-for : (a k h : ℕ) → k < sh .actions → isRunning (b .state a) ≡ true → headOf (b .state k) ≡ some h → heir sh b k ≡ some a → ⊥
+  drains-not-for a k h l r e is =
+      let same : h ≡ a = Option·some-injective h a (sym (heir-drains k h e) ∙ is) in
+      Option·none-ne-some a
+      (sym (tree-headless (b .state a) (runs-in-tree (b .state a) r)) ∙ rw same at (under-head b h h (facts k l .drains h e .headDrains)))

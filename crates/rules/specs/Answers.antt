@@ -4,8 +4,9 @@
 --   1  an action number is too high        5  read, write, commit: a has a running child
 --   2  the instrument is too high          6  read, write: not granted by the rule
 --   3  open: n isn't free                  7  the record isn't sound
+--                                         10  quiet: a isn't draining under itself, or its group isn't in i's sets
 --
--- Where several apply: 7 first, then 1, 2, 3, 4, 5, 6.
+-- Where several apply: 7 first, then 1, 2, 3, 4, 5, 6; for quiet 7 first, then 1, 2, 10.
 use mathlib.Core.Bool.{Bool, true, false, not, _||_}
 use mathlib.Core.List.{List, [], _∷_}
 use mathlib.Core.Option.{Option, none, some}
@@ -13,9 +14,9 @@ use Prim.Native.Nat.{ℕ}
 use lib.Dec.{eqb, leb}
 use Rattle.rules.specs.Tests.{if_then_else_}
 use Rattle.rules.specs.Bench.{Shape, State, isFree, isRunning, Bench}
-use Rattle.rules.specs.Owners.{granted, hasRunningChild}
+use Rattle.rules.specs.Owners.{granted, hasRunningChild, drainsUnder, standAt}
 use Rattle.rules.specs.Sound.{sound}
-use Rattle.rules.specs.Requests.{Request, openTop, openSub, ask, commit, abort, effect}
+use Rattle.rules.specs.Requests.{Request, openTop, openSub, ask, commit, abort, quiet, effect}
 
 -- an action number that the table doesn't have
 abbrev pub tooHigh : Shape → ℕ → Bool
@@ -25,7 +26,7 @@ tooHigh sh a = leb (sh .actions) a
 abbrev pub noInstrument : Shape → ℕ → Bool
 noInstrument sh i = leb (sh .instruments) i
 
--- The rows 1 to 6 and 0, of which the first that applies is given. The granting rule is a parameter: `grants m a i` says whether asker a gets
+-- The rows 1 to 6, 10 and 0, of which the first that applies is given. The granting rule is a parameter: `grants m a i` says whether asker a gets
 -- mode m at instrument i.
 unfoldable pub rowBy : (ℕ → ℕ → ℕ → Bool) → Shape → Bench → Request → ℕ
 rowBy grants sh b (openTop n) =
@@ -52,6 +53,11 @@ rowBy grants sh b (commit a) =
 rowBy grants sh b (abort a) =
     if tooHigh sh a then 1
     else if not (isRunning (b .state a)) then 4
+    else 0
+rowBy grants sh b (quiet a i) =
+    if tooHigh sh a then 1
+    else if noInstrument sh i then 2
+    else if not (drainsUnder b a a) || not (standAt sh b (drainsUnder b a) i) then 10
     else 0
 
 -- the row of a sound bench, by Moss's rule over heirs

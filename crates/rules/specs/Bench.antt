@@ -11,28 +11,49 @@ pub record Shape : Type 0 where
   pub modes : ℕ
   pub conflict : ℕ → ℕ → Bool
 
--- A number is free, running or committed. What a record holds for it may also mean nothing: such a record is unsound.
+-- A number is free, running, committed, or draining under a number, its head: the action with which it was aborted. What a record holds for it may
+-- also mean nothing: such a record is unsound.
 pub data State : Type 0 where
   free running committed : State
+  draining : (head : ℕ) → State
   meaningless : ℕ → State
 
 abbrev pub isFree : State → Bool
 isFree free = true
 isFree running = false
 isFree committed = false
+isFree (draining h) = false
 isFree (meaningless n) = false
 
 abbrev pub isRunning : State → Bool
 isRunning free = false
 isRunning running = true
 isRunning committed = false
+isRunning (draining h) = false
 isRunning (meaningless n) = false
 
 abbrev pub isCommitted : State → Bool
 isCommitted free = false
 isCommitted running = false
 isCommitted committed = true
+isCommitted (draining h) = false
 isCommitted (meaningless n) = false
+
+-- the head that a number drains under
+abbrev pub headOf : State → Option ℕ
+headOf free = none
+headOf running = none
+headOf committed = none
+headOf (draining h) = some h
+headOf (meaningless n) = none
+
+-- A number that drains has left the tree, and a free one isn't in it.
+abbrev pub inTree : State → Bool
+inTree free = false
+inTree running = true
+inTree committed = true
+inTree (draining h) = false
+inTree (meaningless n) = true
 
 -- The state and the parent of each number, and whether number k stands in the set of mode m at instrument i: `stands m i k`.
 pub record Bench : Type 0 where

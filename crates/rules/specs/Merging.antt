@@ -5,7 +5,7 @@ use mathlib.Core.Path.{_≡_}
 use Prim.Native.Nat.{ℕ}
 use lib.Dec.{eqb}
 use Rattle.rules.specs.Bench.{Shape}
-use Rattle.rules.specs.Requests.{Request, openTop, openSub, ask, commit, abort}
+use Rattle.rules.specs.Requests.{Request, openTop, openSub, ask, commit, abort, quiet}
 
 -- the request names action number k
 abbrev pub names : ℕ → Request → Bool
@@ -14,14 +14,16 @@ names k (openSub n p) = eqb n k || eqb p k
 names k (ask m a i) = eqb a k
 names k (commit a) = eqb a k
 names k (abort a) = eqb a k
+names k (quiet a i) = eqb a k
 
--- the request asks for instrument i in mode m
+-- The request asks for instrument i in mode m. Quiet isn't a read: it keeps others from the instrument in any mode.
 abbrev pub asksFor : ℕ → ℕ → Request → Bool
 asksFor m i (openTop n) = false
 asksFor m i (openSub n p) = false
 asksFor m i (ask mode a at) = eqb mode m && eqb at i
 asksFor m i (commit a) = false
 asksFor m i (abort a) = false
+asksFor m i (quiet a at) = eqb at i
 
 -- some request of the list does
 abbrev pub someDoes : (Request → Bool) → List Request → Bool

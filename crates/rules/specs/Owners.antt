@@ -1,15 +1,15 @@
 -- Actions and owners: top actions, children, ancestors, heirs and owners (document 01, "Actions and owners"; Moss's rules are those of the Eos
--- report, section 3.1).
+-- report, section 3.1), and the groups that drain (document 02, order 2).
 use mathlib.Core.Bool.{Bool, true, false, not, _&&_, _||_}
 use mathlib.Core.Option.{Option, none, some}
 use Prim.Native.Nat.{ℕ, zero, suc}
 use lib.Dec.{eqb}
 use Rattle.rules.specs.Tests.{if_then_else_, _⇒_, all, any, from}
-use Rattle.rules.specs.Bench.{Shape, State, isFree, isRunning, Bench}
+use Rattle.rules.specs.Bench.{Shape, State, isRunning, headOf, inTree, Bench}
 
--- A number that isn't free is either a top action or has a parent number.
+-- A number of the tree is either a top action or has a parent number.
 abbrev pub isTop : Bench → ℕ → Bool
-isTop b k = not (isFree (b .state k)) && from (b .parent k) true (λ p. false)
+isTop b k = inTree (b .state k) && from (b .parent k) true (λ p. false)
 
 -- c is a child of a
 abbrev pub isChild : Bench → ℕ → ℕ → Bool
@@ -33,9 +33,9 @@ unfoldable pub nearest : ℕ → (ℕ → State) → (ℕ → Option ℕ) → �
 nearest zero state up k = none
 nearest (suc n) state up k = if isRunning (state k) then some k else from (up k) none (λ p. nearest n state up p)
 
--- The heir of a number that isn't free: the nearest running one among itself and its ancestors.
+-- The heir of a number of the tree: the nearest running one among itself and its ancestors. The heir of a number that drains is its head.
 unfoldable pub heir : Shape → Bench → ℕ → Option ℕ
-heir sh b k = nearest (sh .actions) (b .state) (b .parent) k
+heir sh b k = from (headOf (b .state k)) (nearest (sh .actions) (b .state) (b .parent) k) (λ h. some h)
 
 -- An owner under Moss's rules is the heir of a number in the set.
 unfoldable pub isOwner : Shape → Bench → ℕ → ℕ → ℕ → Bool
@@ -58,3 +58,17 @@ granted sh b m a i =
 -- a has a running child
 unfoldable pub hasRunningChild : Shape → Bench → ℕ → Bool
 hasRunningChild sh b a = any (sh .actions) (λ k. isRunning (b .state k) && isChild b a k)
+
+-- ---- groups that drain
+
+-- k drains under h: it is of h's group
+abbrev pub drainsUnder : Bench → ℕ → ℕ → Bool
+drainsUnder b h k = from (headOf (b .state k)) false (λ x. eqb x h)
+
+-- one of the numbers stands in a set of instrument i
+unfoldable pub standAt : Shape → Bench → (ℕ → Bool) → ℕ → Bool
+standAt sh b numbers i = any (sh .modes) (λ m. any (sh .actions) (λ k. b .stands m i k && numbers k))
+
+-- one of the numbers stands in a set
+unfoldable pub standSomewhere : Shape → Bench → (ℕ → Bool) → Bool
+standSomewhere sh b numbers = any (sh .instruments) (standAt sh b numbers)

@@ -1,4 +1,4 @@
--- Whom the plain machine would name: order 1's words over sets of running owners and lists of ancestors.
+-- Whom the plain machine would name: order 1's words over sets of owners, running or draining, and lists of ancestors.
 use mathlib.Core.Bool.{Bool, not, _&&_, _||_}
 use Prim.Native.Nat.{ℕ}
 use lib.Dec.{eqb}

@@ -1,8 +1,8 @@
--- The sessions that document 01 marks (P), each from an empty bench: requests with the answers that it gives them. Where it gives none, the
--- request is accepted.
+-- The sessions that document 01 marks (P), with the answers that they have since order 2 of document 02, and sessions of order 2, each from an empty bench:
+-- requests with their answers. Where the document gives none, the request is accepted.
 use mathlib.Core.List.{List, [], _∷_, _++_}
 use Prim.Native.Nat.{ℕ}
-use Rattle.rules.specs.Requests.{Request, openTop, openSub, commit, abort}
+use Rattle.rules.specs.Requests.{Request, openTop, openSub, commit, abort, quiet}
 use Rattle.rules.specs.ReadWrite.{read, write}
 
 infixr 10 _gives_
@@ -31,7 +31,7 @@ edgeOfInstruments : List Line
 edgeOfInstruments =
     (openTop 1 gives 0) ∷ (openTop 9 gives 0) ∷ (write 1 127 gives 0) ∷ (write 9 127 gives 6) ∷ (write 9 128 gives 2) ∷ []
 
--- the whole trace of the section on trace lines
+-- the whole trace of the section on trace lines; since order 2, 3 drains at the end
 unfoldable pub wholeTrace : List Line
 wholeTrace =
     (openTop 1 gives 0)
@@ -44,9 +44,13 @@ wholeTrace =
     ∷ (write 3 5 gives 0)
     ∷ (commit 1 gives 5)
     ∷ (abort 3 gives 0)
-    ∷ (write 1 5 gives 0)
+    ∷ (write 1 5 gives 6)
     ∷ (commit 1 gives 0)
     ∷ []
+
+-- At its end 3 still drains, at instrument 5 alone.
+stillDrains : List Line
+stillDrains = wholeTrace ++ ((openTop 3 gives 3) ∷ (quiet 3 4 gives 10) ∷ (quiet 3 5 gives 0) ∷ (openTop 3 gives 0) ∷ [])
 
 -- top 1; 2 and 3 under 1; 4 under 3; write 2, 5: 0; write 4, 5: 6; commit 2; write 4, 5: 0.
 commitReachesNephews : List Line
@@ -78,9 +82,9 @@ abortKeepsAncestorsLock =
     ∷ (write 9 5 gives 6)
     ∷ []
 
--- top 1, 2 under 1, 3 under 2; write 3, 5; commit 3; abort 2; top 9; write 9, 5: 0.
-abortFreesCommittedChildren : List Line
-abortFreesCommittedChildren =
+-- top 1, 2 under 1, 3 under 2; write 3, 5; commit 3; abort 2; top 9; write 9, 5: 6 until 5 is quiet for 2.
+abortTakesCommittedChildren : List Line
+abortTakesCommittedChildren =
     (openTop 1 gives 0)
     ∷ (openSub 2 1 gives 0)
     ∷ (openSub 3 2 gives 0)
@@ -88,6 +92,8 @@ abortFreesCommittedChildren =
     ∷ (commit 3 gives 0)
     ∷ (abort 2 gives 0)
     ∷ (openTop 9 gives 0)
+    ∷ (write 9 5 gives 6)
+    ∷ (quiet 2 5 gives 0)
     ∷ (write 9 5 gives 0)
     ∷ []
 
@@ -102,8 +108,60 @@ committedNumberStaysInUse =
     ∷ (openTop 2 gives 0)
     ∷ []
 
+-- ---- document 02, order 2
+
+-- The whole family drains under the aborted action, those in no set too. Quiet is said of the head and of an instrument where its group stands.
+familyDrainsTogether : List Line
+familyDrainsTogether =
+    (openTop 1 gives 0)
+    ∷ (openSub 2 1 gives 0)
+    ∷ (openSub 3 1 gives 0)
+    ∷ (write 2 5 gives 0)
+    ∷ (abort 1 gives 0)
+    ∷ (openTop 3 gives 3)
+    ∷ (quiet 2 5 gives 10)
+    ∷ (quiet 1 4 gives 10)
+    ∷ (quiet 1 5 gives 0)
+    ∷ (openTop 3 gives 0)
+    ∷ []
+
+-- A drained child has left the tree: its parent's abort doesn't take it.
+drainedChildHasLeft : List Line
+drainedChildHasLeft =
+    (openTop 1 gives 0)
+    ∷ (openSub 2 1 gives 0)
+    ∷ (write 2 5 gives 0)
+    ∷ (abort 2 gives 0)
+    ∷ (abort 1 gives 0)
+    ∷ (openTop 1 gives 0)
+    ∷ (quiet 2 5 gives 0)
+    ∷ (openTop 2 gives 0)
+    ∷ []
+
+-- A draining number is nobody's heir: an ancestor that owns the instrument is blocked too.
+ancestorIsBlocked : List Line
+ancestorIsBlocked =
+    (openTop 1 gives 0)
+    ∷ (write 1 5 gives 0)
+    ∷ (openSub 2 1 gives 0)
+    ∷ (write 2 5 gives 0)
+    ∷ (abort 2 gives 0)
+    ∷ (write 1 5 gives 6)
+    ∷ (quiet 2 5 gives 0)
+    ∷ (write 1 5 gives 0)
+    ∷ []
+
+-- A draining reader blocks writers only.
+drainingReader : List Line
+drainingReader =
+    (openTop 1 gives 0) ∷ (read 1 5 gives 0) ∷ (abort 1 gives 0) ∷ (openTop 2 gives 0) ∷ (read 2 5 gives 0) ∷ (write 2 5 gives 6) ∷ []
+
+-- Quiet has 1 and 2 before 10, and neither 3, 4 nor 5.
+quietRefused : List Line
+quietRefused = (quiet 0 0 gives 10) ∷ (quiet 64 128 gives 1) ∷ (quiet 0 128 gives 2) ∷ []
+
 unfoldable pub sessions : List (List Line)
-unfolding precedence edgeOfNumbers underItself twoReaders edgeOfInstruments wholeTrace commitReachesNephews noParentChildParallelism abortKeepsAncestorsLock abortFreesCommittedChildren committedNumberStaysInUse
+unfolding precedence edgeOfNumbers underItself twoReaders edgeOfInstruments wholeTrace stillDrains commitReachesNephews noParentChildParallelism abortKeepsAncestorsLock abortTakesCommittedChildren committedNumberStaysInUse familyDrainsTogether drainedChildHasLeft ancestorIsBlocked drainingReader quietRefused
 sessions =
     precedence
     ∷ edgeOfNumbers
@@ -111,9 +169,15 @@ sessions =
     ∷ twoReaders
     ∷ edgeOfInstruments
     ∷ wholeTrace
+    ∷ stillDrains
     ∷ commitReachesNephews
     ∷ noParentChildParallelism
     ∷ abortKeepsAncestorsLock
-    ∷ abortFreesCommittedChildren
+    ∷ abortTakesCommittedChildren
     ∷ committedNumberStaysInUse
+    ∷ familyDrainsTogether
+    ∷ drainedChildHasLeft
+    ∷ ancestorIsBlocked
+    ∷ drainingReader
+    ∷ quietRefused
     ∷ []

@@ -1,5 +1,5 @@
--- Document 01's sentence "Load gives 8 for any other shape", clause by clause, computed on short texts that differ little from well-shaped ones.
--- Well-shaped texts that break rules 1 to 4 get 7.
+-- Document 01's sentence "Load gives 8 for any other shape", clause by clause, with the states of document 02, order 2, computed on short texts that
+-- differ little from well-shaped ones. Well-shaped texts that aren't sound get 7.
 use mathlib.Core.Path.{_≡_, refl}
 use mathlib.Core.Bool.{Bool, true, false, _&&_}
 use mathlib.Core.List.{List, [], _∷_, _++_}
@@ -11,7 +11,8 @@ use Prim.Native.String.{String}
 use lib.Dec.{eqb}
 use lib.ListN.{replicate, set}
 use Rattle.sets.specs.Sets.{member}
-use Rattle.rules.specs.Tests.{all}
+use Rattle.rules.specs.Tests.{all, any}
+use Rattle.rules.specs.Owners.{standAt, standSomewhere}
 use Rattle.rules.specs.Sound.{standsNowhere, reachesTop, sound}
 use Rattle.bench.specs.declared.Bench.{Bench}
 use Rattle.saved.specs.declared.Loaded.{Loaded}
@@ -30,7 +31,7 @@ bytes (line ∷ lines) = bytesOf line ++ bytes lines
 
 -- what a text loads as
 loads : List String → Loaded
-unfolding bytes bytesOf recordIn actionsIn instrumentsIn takeFrom standsAt numberAt digitsAt all loadOf sound reachesTop standsNowhere member
+unfolding bytes bytesOf recordIn actionsIn instrumentsIn takeFrom standsAt numberAt digitsAt all loadOf sound reachesTop standsNowhere standSomewhere standAt any member
 loads lines = loadOf (bytes lines)
 
 -- each of these texts gets this answer
@@ -54,6 +55,11 @@ action-and-instrument : loads ("110101ff\n" ∷ "11050101\n" ∷ "127f0000000000
 unfolding loads
 action-and-instrument = refl
 
+-- action 3 was aborted: 2 and 3 drain under it, and 2 still reads instrument 7
+draining-group : loads ("11020303\n" ∷ "11030303\n" ∷ "120700000000000000040000000000000000\n" ∷ []) ≡ record { bench = record { parents = replicate 64 0; states = set (set (replicate 64 0) 2 6) 3 6; reads = set (replicate 128 0) 7 4; writes = replicate 128 0 }; answer = 0 }
+unfolding loads
+draining-group = refl
+
 abbrev isSome : Option Bench → Bool
 isSome none = false
 isSome (some b) = true
@@ -65,7 +71,7 @@ shaped [] = true
 shaped (text ∷ texts) = isSome (recordIn (bytes text)) && shaped texts
 
 -- what the texts below come from by a small change
-neighbours-shaped : shaped (("110501ff\n" ∷ []) ∷ ("113f01ff\n" ∷ []) ∷ ("1105013f\n" ∷ []) ∷ ("110502ff\n" ∷ []) ∷ ("110501ff\n" ∷ "110601ff\n" ∷ []) ∷ ("127f00000000000000020000000000000000\n" ∷ []) ∷ ("110501ff\n" ∷ "120700000000000000200000000000000000\n" ∷ []) ∷ ("120600000000000000200000000000000000\n" ∷ "120700000000000000200000000000000000\n" ∷ []) ∷ []) ≡ true
+neighbours-shaped : shaped (("110501ff\n" ∷ []) ∷ ("113f01ff\n" ∷ []) ∷ ("1105013f\n" ∷ []) ∷ ("110502ff\n" ∷ []) ∷ ("110503ff\n" ∷ []) ∷ ("1105033f\n" ∷ []) ∷ ("110501ff\n" ∷ "110601ff\n" ∷ []) ∷ ("127f00000000000000020000000000000000\n" ∷ []) ∷ ("110501ff\n" ∷ "120700000000000000200000000000000000\n" ∷ []) ∷ ("120600000000000000200000000000000000\n" ∷ "120700000000000000200000000000000000\n" ∷ []) ∷ []) ≡ true
 unfolding shaped
 neighbours-shaped = refl
 
@@ -89,13 +95,13 @@ instrument-above-127 : answers 8 (("128000000000000000020000000000000000\n" ∷ 
 unfolding answers
 instrument-above-127 = refl
 
-parent-neither-below-64-nor-ff : answers 8 (("11050140\n" ∷ []) ∷ ("110501fe\n" ∷ []) ∷ []) ≡ true
+parent-neither-below-64-nor-ff : answers 8 (("11050140\n" ∷ []) ∷ ("110501fe\n" ∷ []) ∷ ("11050340\n" ∷ []) ∷ []) ≡ true
 unfolding answers
 parent-neither-below-64-nor-ff = refl
 
-state-neither-01-nor-02 : answers 8 (("110500ff\n" ∷ []) ∷ ("110503ff\n" ∷ []) ∷ []) ≡ true
+state-neither-01-02-nor-03 : answers 8 (("110500ff\n" ∷ []) ∷ ("110504ff\n" ∷ []) ∷ ("11050405\n" ∷ []) ∷ []) ≡ true
 unfolding answers
-state-neither-01-nor-02 = refl
+state-neither-01-02-nor-03 = refl
 
 action-after-instrument : answers 8 (("120700000000000000200000000000000000\n" ∷ "110501ff\n" ∷ []) ∷ []) ≡ true
 unfolding answers
@@ -129,3 +135,18 @@ unknown-code = refl
 unsound : answers 7 (("113f02ff\n" ∷ []) ∷ ("113f013f\n" ∷ []) ∷ ("113f0100\n" ∷ []) ∷ ("120780000000000000000000000000000000\n" ∷ []) ∷ []) ≡ true
 unfolding answers
 unsound = refl
+
+-- 5 reads instrument 7 and drains: under nobody, under a free number, under one that runs, under one that drains under another
+no-head : answers 7 (("110503ff\n" ∷ "120700000000000000200000000000000000\n" ∷ []) ∷ ("11050304\n" ∷ "120700000000000000200000000000000000\n" ∷ []) ∷ ("110401ff\n" ∷ "11050304\n" ∷ "120700000000000000200000000000000000\n" ∷ []) ∷ ("11040306\n" ∷ "11050304\n" ∷ "11060306\n" ∷ "120700000000000000200000000000000040\n" ∷ []) ∷ []) ≡ true
+unfolding answers
+no-head = refl
+
+-- a group that stands in no set, alone and beside one that does
+stands-nowhere : answers 7 (("11050305\n" ∷ []) ∷ ("11040305\n" ∷ "11050305\n" ∷ "11060306\n" ∷ "120700000000000000400000000000000000\n" ∷ []) ∷ []) ≡ true
+unfolding answers
+stands-nowhere = refl
+
+-- a number that runs and one that is committed, below one that drains
+parent-drains : answers 7 (("11050305\n" ∷ "11060105\n" ∷ "120700000000000000200000000000000000\n" ∷ []) ∷ ("11050305\n" ∷ "11060205\n" ∷ "120700000000000000200000000000000000\n" ∷ []) ∷ []) ≡ true
+unfolding answers
+parent-drains = refl

@@ -8,18 +8,12 @@ use native.Mathlib.Omega.{arith}
 use lib.ListN.{set}
 use lib.Pow.{pow-add}
 use lib.Seq.{sets}
-use Rattle.forms.specs.Kinds.{parentDigits}
 use Rattle.forms.specs.Text.{hexDigit, hexOf}
 
 -- four bits are a digit
 pub shift-digits : (m : ℕ) → 2 ^ (4 * m) ≡ 16 ^ m
 shift-digits zero = refl
 shift-digits (suc m) = let e : 4 * suc m ≡ 4 * m + 4 = omega arith in rw (e, pow-add 2 (4 * m) 4, shift-digits m, pow-suc 16 m)
-
--- a parent's number, from a byte that isn't 0
-pub parent-less : (p : ℕ) → (p ≡ 0 → ⊥) → parentDigits p ≡ p - 1
-parent-less zero some = absurd (some refl)
-parent-less (suc p) some = omega arith
 
 -- the highest of the digits left is written, and the others are left behind it
 pub digit-more : (out : List ℕ) (place left x : ℕ) → (left ≡ 0 → ⊥)

@@ -4,23 +4,40 @@ use forms::ACTION_DIGITS;
 use forms::INSTRUMENT_CODE;
 use forms::INSTRUMENT_DIGITS;
 use marks::bytes::wide;
+use marks::states::DRAINING;
 ghost use mathlib.Core.Path.{_≡_};
 ghost use Prim.Native.Nat.{_+_, _/_, _%_, _^_, _<_, _≤_};
 ghost use lib.ListN.{length};
 ghost use lib.Seq.{sets};
-ghost use Rattle.forms.specs.Kinds.{evenShape, frameSize, parentDigits, action, instrument};
+ghost use Rattle.forms.specs.Kinds.{evenShape, frameSize, stateDigits, parentDigits, action, instrument};
 ghost use Rattle.forms.specs.Text.{hexDigit, hexOf, frame, cellOf, cellsFrom};
 ghost use Rattle.saving.specs.Written.{Written};
 
-// A parent's byte as a number to write: ff for a top action, else the parent.
-fn parent_digits(parent: u8) -> u64
-    ensures { λ r. ⌜ r ≡ parentDigits parent ⌝ }
+// ss, from a state's byte: running, committed or draining.
+fn state_digits(state: u8) -> u64
+    ensures { λ r. ⌜ r ≡ stateDigits state ⌝ }
 {
-    if parent == 0 {
-        0xff
+    if state < DRAINING {
+        wide(state) as u64
     } else {
-        wide(parent) as u64 - 1
+        3
     }
+}
+
+// pp, from both bytes: of a number that drains the aborted action, else the parent, or ff for a top action.
+fn parent_digits(parent: u8, state: u8) -> u64
+    ensures { λ r. ⌜ r ≡ parentDigits parent state ⌝ }
+{
+    if state < DRAINING {
+        if parent == 0 {
+            return 0xff;
+        }
+        return wide(parent) as u64 - 1;
+    }
+    if state < 67 {
+        return wide(state) as u64 - 3;
+    }
+    0xff
 }
 
 // The character of the digit of x that has `left` digits behind it.
@@ -82,16 +99,9 @@ fn write_action<'a>(
     if state == 0 {
         return at;
     }
-    let parent = parent_digits(parents[k]);
-    put_frame(
-        out,
-        at,
-        ACTION_DIGITS,
-        ACTION_CODE,
-        k as u64,
-        wide(state) as u64,
-        parent,
-    )
+    let ss = state_digits(state);
+    let pp = parent_digits(parents[k], state);
+    put_frame(out, at, ACTION_DIGITS, ACTION_CODE, k as u64, ss, pp)
 }
 
 // Writes what instrument i adds to the text, and gives the place behind it.

@@ -70,6 +70,24 @@ fn numbers_of_abort() {
     last(b.abort(63));
 }
 
+fn numbers_of_quiet() {
+    let b = first(Bench::empty().open_top(63));
+    let b = then(b.write(63, 0));
+    let b = then(b.abort(63));
+    let b = then(b.quiet(64, 0));
+    let b = then(b.quiet(FARTHEST, 0));
+    last(b.quiet(63, 0));
+}
+
+fn instruments_of_quiet() {
+    let b = first(Bench::empty().open_top(63));
+    let b = then(b.read(63, 127));
+    let b = then(b.abort(63));
+    let b = then(b.quiet(63, 128));
+    let b = then(b.quiet(63, FARTHEST));
+    last(b.quiet(63, 127));
+}
+
 pub(crate) fn edges() {
     numbers_of_open_top();
     numbers_of_open_sub();
@@ -80,4 +98,6 @@ pub(crate) fn edges() {
     instruments_of_write();
     numbers_of_commit();
     numbers_of_abort();
+    numbers_of_quiet();
+    instruments_of_quiet();
 }

@@ -1,4 +1,4 @@
-// The sessions that document 01 marks (P), in its order, each from an empty bench.
+// The sessions that document 01 marks (P), in its order, with the answers that they have since order 2 of document 02, each from an empty bench.
 use bench::Bench;
 use trials::show::first;
 use trials::show::last;
@@ -42,8 +42,8 @@ fn edge_of_instruments() {
     last(b.write(9, 128));
 }
 
-// The twelve lines of the section on trace lines.
-fn whole_trace() {
+// The twelve lines of the section on trace lines. They leave 3 draining.
+fn whole_trace() -> Bench {
     let b = first(Bench::empty().open_top(1));
     let b = then(b.open_sub(2, 1));
     let b = then(b.open_sub(3, 1));
@@ -55,7 +55,15 @@ fn whole_trace() {
     let b = then(b.commit(1));
     let b = then(b.abort(3));
     let b = then(b.write(1, 5));
-    last(b.commit(1));
+    last(b.commit(1))
+}
+
+// What they leave drains at instrument 5 and nowhere else.
+fn still_drains(b: Bench) {
+    let b = first(b.open_top(3));
+    let b = then(b.quiet(3, 4));
+    let b = then(b.quiet(3, 5));
+    last(b.open_top(3));
 }
 
 // What 2 wrote is its parent's once it commits, and so the nephew 4 may write it.
@@ -90,8 +98,8 @@ fn abort_keeps_ancestors_lock() {
     last(b.write(9, 5));
 }
 
-// What the committed 3 wrote goes with its parent 2.
-fn abort_frees_committed_children() {
+// What the committed 3 wrote goes with its parent 2: 9 waits until that is quiet.
+fn abort_takes_committed_children() {
     let b = first(Bench::empty().open_top(1));
     let b = then(b.open_sub(2, 1));
     let b = then(b.open_sub(3, 2));
@@ -99,6 +107,8 @@ fn abort_frees_committed_children() {
     let b = then(b.commit(3));
     let b = then(b.abort(2));
     let b = then(b.open_top(9));
+    let b = then(b.write(9, 5));
+    let b = then(b.quiet(2, 5));
     last(b.write(9, 5));
 }
 
@@ -112,17 +122,17 @@ fn committed_number_stays_in_use() {
     last(b.open_top(2));
 }
 
-// All eleven.
+// All eleven, and how the whole trace ends.
 pub(crate) fn marked_sessions() {
     precedence();
     edge_of_numbers();
     under_itself();
     two_readers();
     edge_of_instruments();
-    whole_trace();
+    still_drains(whole_trace());
     commit_reaches_nephews();
     no_parent_child_parallelism();
     abort_keeps_ancestors_lock();
-    abort_frees_committed_children();
+    abort_takes_committed_children();
     committed_number_stays_in_use();
 }

@@ -1,5 +1,5 @@
-// Where several answers apply, the order 1, 2, 3, 4, 5, 6 decides. 7 before all others is shown by the unsound records. Two pairs never apply
-// together on a sound record: 4 and 5, since a running child's parent runs, and 2 and 6, since an instrument above 127 has no sets.
+// Where several answers apply, the order 1, 2, 3, 4, 5, 6 decides, and for quiet 1, 2, 10. 7 before all others is shown by the unsound records. Two pairs
+// never apply together on a sound record: 4 and 5, since a running child's parent runs, and 2 and 6, since an instrument above 127 has no sets.
 use bench::Bench;
 use trials::show::first;
 use trials::show::last;
@@ -86,6 +86,14 @@ fn not_running() {
     last(b.abort(8));
 }
 
+// Quiet: a free number; one above 63, on an instrument above 127 and on another; and a free number on an instrument above 127.
+fn one_and_two_before_ten() {
+    let b = first(Bench::empty().quiet(0, 0));
+    let b = then(b.quiet(64, 128));
+    let b = then(b.quiet(64, 0));
+    last(b.quiet(0, 128));
+}
+
 pub(crate) fn order_of_answers() {
     one_before_two();
     one_before_three();
@@ -96,4 +104,5 @@ pub(crate) fn order_of_answers() {
     four_before_six();
     five_before_six();
     not_running();
+    one_and_two_before_ten();
 }

@@ -1,7 +1,9 @@
-// The soundness test: rules 1 to 4 of document 01 on the arrays of a record, in the order in which they are cheapest to refuse.
+// The soundness test: rules 1 to 4 of document 01 on the arrays of a record, and the groups that drain, in the order in which they are cheapest to refuse.
 mod chains;
+mod draining;
 
 use crate::chains::chains_end;
+use crate::draining::drains_well;
 use marks::bytes::wide;
 use marks::states::COMMITTED;
 use marks::states::FREE;
@@ -18,7 +20,8 @@ ghost use Rattle.tables.specs.Soundness.{forbidsOf, forbiddenUnder, permitted};
 ghost use Rattle.views.specs.Families.{upperChild, NoParentsFrom};
 ghost use Rattle.tables.specs.Owners.{ofMembers};
 
-// Each number's bytes by themselves: rules 1 and 2 but for the sets, and that a parent's byte names a number of the table.
+// Each number's bytes by themselves: rules 1 and 2 but for the sets, that a parent's byte names a number of the table, and that a byte from 3 to 66, of one that
+// drains, has no parent beside it.
 fn bytes_fit<'a>(parents: &'a [u8; 64], states: &'a [u8; 64]) -> bool
     ensures { λ r. ⌜ r ≡ all 64 (bytesFit (now (parents .entry)) (now (states .entry))) ⌝ }
 {
@@ -27,10 +30,10 @@ fn bytes_fit<'a>(parents: &'a [u8; 64], states: &'a [u8; 64]) -> bool
         let p = parents[k];
         let s = states[k];
         ok = ok
-            & ((s <= COMMITTED)
+            & ((s < 67)
                 & (p <= 64)
                 & ((p != 0) | (s != COMMITTED))
-                & ((s != FREE) | (p == 0)));
+                & ((p == 0) | ((s == RUNNING) | (s == COMMITTED))));
     }
     ok
 }
@@ -39,11 +42,11 @@ fn bytes_fit<'a>(parents: &'a [u8; 64], states: &'a [u8; 64]) -> bool
 fn forbids(s: u8) -> u8
     ensures { λ r. ⌜ r ≡ forbidsOf s ⌝ }
 {
-    if s == FREE {
-        return 3;
-    }
     if s == RUNNING {
         return 0;
+    }
+    if s != COMMITTED {
+        return 3;
     }
     1
 }
@@ -80,7 +83,7 @@ fn end_of_children(parents: &[u8; 64]) -> usize
     32
 }
 
-// Rule 4, and that no parent is free.
+// Rule 4, and that no parent is free or drains.
 fn parents_stand<'a>(parents: &'a [u8; 64], states: &'a [u8; 64]) -> bool
     requires { ⌜ ((k : ℕ) → k < 64 → getD (now parents) k 0 ≤ 64) ⌝ }
     ensures { λ r. ⌜ r ≡ all 64 (permitted (now (parents .entry)) (now (states .entry))) ⌝ }
@@ -144,5 +147,8 @@ pub fn sound<'a>(parents: &'a [u8; 64], states: &'a [u8; 64], numbers: u64) -> b
     if !chains_end(parents) {
         return false;
     }
-    none_free(states, numbers)
+    if !none_free(states, numbers) {
+        return false;
+    }
+    drains_well(states, numbers)
 }

@@ -20,14 +20,16 @@ use Rattle.views.specs.Tree.{SoundTree, inLine}
 use Rattle.views.specs.Owners.{ownersInLine}
 use Rattle.views.specs.View.{layout, arrays}
 use Rattle.views.specs.Index.{KnowsChild, KnowsLine}
-use Rattle.tables.proofs.ViewLaws.{running-byte, tree-sound}
+use Rattle.tables.proofs.States.{tree-running-byte}
+use Rattle.tables.proofs.ViewLaws.{tree-sound}
 use Rattle.tables.proofs.Lines.{met-in-line}
 use Rattle.tables.proofs.Held.{held-in-line}
 use Rattle.tables.proofs.Rows as rows
 use Rattle.tables.proofs.Rows.{looked-for-child}
 use Rattle.views.proofs.Asks.{ask-found, granted-in-place}
 use Rattle.steps.specs.Arrays.{Arrays, viewOf, readSets, writeSets, SoundLists, SteppedTo}
-use Rattle.steps.specs.Rows.{askRow, busyIn, lineFor, heldFor, conflicting, conflictingAt}
+use Rattle.views.specs.Owners.{conflicting}
+use Rattle.steps.specs.Rows.{askRow, busyIn, lineFor, heldFor, conflictingAt}
 use Rattle.steps.specs.Changes.{asked}
 use Rattle.steps.specs.Steps.{Asked, askAnswer}
 use Rattle.steps.proofs.Halves.{read-set-at, write-set-at, read-stored, read-stored-other, write-stored, write-stored-other}
@@ -57,7 +59,7 @@ module _ (parents states : List ℕ) (ok : SoundTree parents states) (a : ℕ) w
   ask-row-is busy line owners i child knows =
       by-bool (leb 64 a) (λ t. rw t)
       (λ t. by-bool (leb 128 i) (λ u. rw (t, u))
-      (λ u. rw (t, u, running-byte (getD states a 0))
+      (λ u. rw (t, u, tree-running-byte (getD states a 0))
       (by-bool (eqb (getD states a 0) 1)
       (λ v. let l = leb-false 64 a t in let runs = eqb-true (getD states a 0) 1 v in
       rw (v, ← child-of busy child l runs, held-for line owners knows l runs))

@@ -14,7 +14,8 @@ use Rattle.rules.proofs.Tests.{by-bool, clash, implied, all-by}
 use Rattle.views.specs.Reach.{waitsFor, heldBy, allHeld}
 use Rattle.tables.proofs.Reaching.{reaches-here}
 use Rattle.steps.specs.Arrays.{placeOf}
-use Rattle.steps.specs.Rows.{commitRow, askRow, lineFor, heldFor, conflicting, conflictingAt}
+use Rattle.views.specs.Owners.{conflicting}
+use Rattle.steps.specs.Rows.{commitRow, askRow, lineFor, heldFor, conflictingAt}
 
 -- ---- owners
 

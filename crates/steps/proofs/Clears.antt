@@ -1,52 +1,47 @@
--- Lists from which numbers have gone: their lengths and places, and the turn of the loop that clears sets. Assumes nothing.
+-- Lists whose numbers got another byte or have gone: their lengths and places, and the turn of the loop that clears sets. Assumes nothing.
 use mathlib.Core.Path.{_≡_, refl, sym, _∙_, ap}
-use mathlib.Core.Bool.{Bool, true, false}
 use mathlib.Core.List.{List, [], _∷_, map}
-use Prim.Native.Nat.{ℕ, zero, suc, _+_, _≤_}
+use Prim.Native.Nat.{ℕ, zero, suc, _+_, _≤_, _<_}
 use native.Mathlib.Omega.{arith}
 use native.Mathlib.Nat.{zero-add, add-zero, suc-add, add-suc}
 use native.Mathlib.Numerals.{add-one}
 use lib.ListN.{length, getD, set, length-map, List·getD-map}
 use lib.Seq.{ext-getD}
-use Rattle.sets.specs.Sets.{member, difference}
-use Rattle.rules.specs.Tests.{if_then_else_}
-use Rattle.views.specs.Families.{kept}
+use Rattle.sets.specs.Sets.{difference}
+use Rattle.views.specs.Families.{given}
 use Rattle.tables.specs.Changes.{Changed}
 use Rattle.tables.proofs.Cleared.{difference-empty}
-use Rattle.steps.specs.Changes.{bytesFrom, bytesLeft, setsLeft}
+use Rattle.steps.specs.Changes.{bytesFrom, bytesPut, setsLeft}
 
 -- ---- bytes
 
-bytes-from-long : (k gone : ℕ) (bytes : List ℕ) → length (bytesFrom k gone bytes) ≡ length bytes
-unfolding bytesFrom
-bytes-from-long k gone [] = refl
-bytes-from-long k gone (byte ∷ rest) = ap suc (bytes-from-long (suc k) gone rest)
+module _ (numbers new : ℕ) where
+  bytes-from-long : (k : ℕ) (bytes : List ℕ) → length (bytesFrom k numbers new bytes) ≡ length bytes
+  unfolding bytesFrom
+  bytes-from-long k [] = refl
+  bytes-from-long k (byte ∷ rest) = ap suc (bytes-from-long (suc k) rest)
 
-nothing-kept : (t : Bool) → _≡_ {A = ℕ} 0 (if t then 0 else 0)
-nothing-kept true = refl
-nothing-kept false = refl
+  bytes-from-at : (k : ℕ) (bytes : List ℕ) (i : ℕ) → i < length bytes → getD (bytesFrom k numbers new bytes) i 0 ≡ given numbers new (k + i) (getD bytes i 0)
+  unfolding bytesFrom
+  bytes-from-at k [] i l = absurd (omega arith)
+  bytes-from-at k (byte ∷ rest) zero l = rw (add-zero k)
+  bytes-from-at k (byte ∷ rest) (suc i) l =
+      bytes-from-at (suc k) rest i (omega arith)
+      ∙ ap (λ (n : ℕ). given numbers new n (getD rest i 0)) (suc-add k i ∙ sym (add-suc k i))
 
-bytes-from-at : (k gone : ℕ) (bytes : List ℕ) (i : ℕ) → getD (bytesFrom k gone bytes) i 0 ≡ kept gone (k + i) (getD bytes i 0)
-unfolding bytesFrom
-bytes-from-at k gone [] i = nothing-kept (member gone (k + i))
-bytes-from-at k gone (byte ∷ rest) zero = rw (add-zero k)
-bytes-from-at k gone (byte ∷ rest) (suc i) =
-    bytes-from-at (suc k) gone rest i
-    ∙ ap (λ (n : ℕ). kept gone n (getD rest i 0)) (suc-add k i ∙ sym (add-suc k i))
+  -- the bytes with others, place by place
+  pub bytes-put : (bytes : List ℕ) → Changed (given numbers new) bytes (bytesPut numbers new bytes)
+  bytes-put bytes =
+      record {
+        long = bytes-from-long 0 bytes;
+        each = λ i l. bytes-from-at 0 bytes i l ∙ ap (λ (n : ℕ). given numbers new n (getD bytes i 0)) (zero-add i);
+      }
 
--- the bytes that are left, place by place
-pub bytes-left : (gone : ℕ) (bytes : List ℕ) → Changed (kept gone) bytes (bytesLeft gone bytes)
-bytes-left gone bytes =
-    record {
-      long = bytes-from-long 0 gone bytes;
-      each = λ i. bytes-from-at 0 gone bytes i ∙ ap (λ (n : ℕ). kept gone n (getD bytes i 0)) (zero-add i);
-    }
-
--- Bytes that were changed so, place by place, are the bytes that are left.
-pub changed-left : (gone : ℕ) (before after : List ℕ) → Changed (kept gone) before after → after ≡ bytesLeft gone before
-changed-left gone before after c =
-    let left = bytes-left gone before in
-    ext-getD 0 after (bytesLeft gone before) (c .long ∙ sym (left .long)) (λ i l. c .each i ∙ sym (left .each i))
+  -- Bytes that were changed so, place by place, are those bytes.
+  pub changed-put : (before after : List ℕ) → Changed (given numbers new) before after → after ≡ bytesPut numbers new before
+  changed-put before after c =
+      let put = bytes-put before in
+      ext-getD 0 after (bytesPut numbers new before) (c .long ∙ sym (put .long)) (λ i l. c .each i (rw (sym (c .long)) l) ∙ sym (put .each i (rw (sym (c .long)) l)))
 
 -- ---- sets
 
@@ -55,7 +50,7 @@ pub sets-left : (gone : ℕ) (words : List ℕ) → Changed (λ i word. differen
 sets-left gone words =
     record {
       long = length-map words (λ (word : ℕ). difference word gone);
-      each = λ i. ap (getD (setsLeft gone words) i) (sym (difference-empty gone)) ∙ List·getD-map (λ (word : ℕ). difference word gone) words i 0;
+      each = λ i l. ap (getD (setsLeft gone words) i) (sym (difference-empty gone)) ∙ List·getD-map (λ (word : ℕ). difference word gone) words i 0;
     }
 
 -- the list with f applied to its first n elements

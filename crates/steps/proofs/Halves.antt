@@ -1,10 +1,12 @@
--- The owners' words in two halves, the read sets and the write sets: a place, a store and a change of every set, seen in each half. Assumes nothing.
+-- The owners' words in two halves, the read sets and the write sets: a place, a store, numbers that leave, and a change of every set, seen in each half. Assumes nothing.
 use mathlib.Core.Path.{_≡_, refl, _∙_, ap}
 use mathlib.Core.List.{List, [], _∷_, map}
 use Prim.Native.Nat.{ℕ, zero, suc, _+_, _<_}
 use native.Mathlib.Omega.{arith}
 use lib.ListN.{getD, set, take, drop}
 use lib.Seq.{take-set-le, take-set-lt, drop-set-lt, drop-set-add, getD-take, getD-drop}
+use Rattle.sets.specs.Sets.{difference}
+use Rattle.tables.specs.OneWord.{leftAt}
 use Rattle.steps.specs.Arrays.{readSets, writeSets}
 
 -- ---- a place
@@ -28,6 +30,20 @@ write-stored owners i s l = ap (take 128) (drop-set-add 128 owners i s) ∙ take
 
 pub write-stored-other : (owners : List ℕ) (i s : ℕ) → readSets (set owners (128 + i) s) ≡ readSets owners
 write-stored-other owners i s = take-set-le 128 owners (128 + i) s (omega arith)
+
+-- ---- numbers leave one set
+
+pub read-left : (owners : List ℕ) (i gone : ℕ) → i < 128 → readSets (leftAt owners i gone) ≡ leftAt (readSets owners) i gone
+read-left owners i gone l = rw (read-stored owners i (difference (getD owners i 0) gone) l, read-set-at owners i l)
+
+pub read-left-other : (owners : List ℕ) (i gone : ℕ) → i < 128 → writeSets (leftAt owners i gone) ≡ writeSets owners
+read-left-other owners i gone l = read-stored-other owners i (difference (getD owners i 0) gone) l
+
+pub write-left : (owners : List ℕ) (i gone : ℕ) → i < 128 → writeSets (leftAt owners (128 + i) gone) ≡ leftAt (writeSets owners) i gone
+write-left owners i gone l = rw (write-stored owners i (difference (getD owners (128 + i) 0) gone) l, write-set-at owners i l)
+
+pub write-left-other : (owners : List ℕ) (i gone : ℕ) → readSets (leftAt owners (128 + i) gone) ≡ readSets owners
+write-left-other owners i gone = write-stored-other owners i (difference (getD owners (128 + i) 0) gone)
 
 -- ---- a change of every set
 

@@ -4,7 +4,7 @@ use mathlib.Core.Bool.{Bool, true}
 use mathlib.Core.List.{List}
 use Prim.Native.Nat.{ℕ, _%_}
 use native.Mathlib.Omega.{arith}
-use borrow.Author.Tests.{ltb-true, ltb-false}
+use borrow.Author.Tests.{ltb-true, ltb-false, eqb-true, eqb-false}
 use lib.Dec.{ltb, eqb}
 use lib.ListN.{length, getD}
 use Rattle.rules.proofs.Tests.{by-bool}
@@ -23,7 +23,9 @@ use Rattle.steps.specs.Rows.{busyIn}
 use Rattle.steps.specs.Changes.{familyFreed}
 use Rattle.steps.specs.Steps.{Requested}
 use Rattle.steps.proofs.Gathered.{set-members}
-use Rattle.steps.proofs.Laws.{opened-steps, end-steps}
+use Rattle.steps.proofs.Laws.{opened-steps}
+use Rattle.steps.proofs.EndLaws.{end-steps}
+use Rattle.steps.proofs.QuietLaws.{quieted-steps}
 use Rattle.steps.proofs.AskLaws.{ask-steps}
 
 -- The family that is freed is that of the rules.
@@ -37,11 +39,13 @@ pub request-steps : {before : Arrays} → SoundLists before → {answer : ℕ} {
 request-steps {before} ok {answer} {after} code x y d =
     by-bool (ltb code 3)
     (λ t. opened-steps ok code x y (ltb-true code 3 t) (rw t at d))
-    (λ t. by-bool (ltb code 5)
+    (λ t. by-bool (eqb code 7)
+    (λ v. let e = eqb-true code 7 v in rw e (quieted-steps ok x y (rw e at d)))
+    (λ v. by-bool (ltb code 5)
     (λ u. rw (framed-ask code x y (ltb-false code 3 t) (ltb-true code 5 u))
-    (ask-steps ok (eqb code 4) busy 0 x y child (λ known. absurd (known refl)) (rw (t, u) at d)))
-    (λ u. end-steps ok code busy (familyFreed code x (before .parents)) x y (ltb-false code 5 u) child
-    (freed-knows (before .parents) (before .states) sound (ok .table .long .parentsLong) code x) (rw (t, u) at d)))
+    (ask-steps ok (eqb code 4) busy 0 x y child (λ known. absurd (known refl)) (rw (t, v, u) at d)))
+    (λ u. end-steps ok code busy (familyFreed code x (before .parents)) x y (ltb-false code 5 u) (eqb-false code 7 v) child
+    (freed-knows (before .parents) (before .states) sound (ok .table .long .parentsLong) code x) (rw (t, v, u) at d))))
   where
     busy : Bool
     busy = busyIn (before .parents) (before .states) x

@@ -1,29 +1,38 @@
 -- The rows of document 01's table, of any bytes: the first that applies is the answer. What is said of running children and of owners is a parameter.
-use mathlib.Core.Bool.{Bool, true, false, not, _&&_}
-use mathlib.Core.List.{List, []}
+use mathlib.Core.Bool.{Bool, true, false, not, _&&_, _||_}
+use mathlib.Core.List.{List}
 use Prim.Native.Nat.{ℕ, _+_, _%_}
 use lib.Dec.{eqb, leb}
 use lib.ListN.{getD}
-use Rattle.sets.specs.Sets.{member, union}
+use Rattle.sets.specs.Sets.{member, union, meet}
 use Rattle.rules.specs.Tests.{if_then_else_, any}
 use Rattle.rules.specs.Requests.{openTop, openSub, abort}
 use Rattle.rules.specs.Answers.{row}
-use Rattle.tables.specs.Tree.{tree, treeShape}
+use Rattle.tables.specs.Tree.{bare, treeShape}
 use Rattle.views.specs.Tree.{metFrom}
+use Rattle.views.specs.Owners.{conflicting}
 use Rattle.views.specs.Reach.{allHeld}
 use Rattle.steps.specs.Arrays.{placeOf}
 
 -- open top n
 abbrev pub openTopRow : List ℕ → ℕ → ℕ
-openTopRow states n = row (treeShape 64) (tree [] states) (openTop n)
+openTopRow states n = row (treeShape 64) (bare 64 states) (openTop n)
 
 -- open sub n under p
 abbrev pub openSubRow : List ℕ → ℕ → ℕ → ℕ
-openSubRow states n p = row (treeShape 64) (tree [] states) (openSub n p)
+openSubRow states n p = row (treeShape 64) (bare 64 states) (openSub n p)
 
 -- abort a
 abbrev pub abortRow : List ℕ → ℕ → ℕ
-abortRow states a = row (treeShape 64) (tree [] states) (abort a)
+abortRow states a = row (treeShape 64) (bare 64 states) (abort a)
+
+-- quiet a, i, where `stands` is said of those that drain under a
+abbrev pub quietRow : List ℕ → Bool → ℕ → ℕ → ℕ
+quietRow states stands a i =
+    if leb 64 a then 1
+    else if leb 128 i then 2
+    else if not (eqb (getD states a 0) (3 + a)) || not stands then 10
+    else 0
 
 -- commit a, where `busy` is said of a's running children
 abbrev pub commitRow : List ℕ → Bool → ℕ → ℕ
@@ -57,13 +66,13 @@ lineFor parents line a = if eqb line 0 then metFrom parents (a % 64) else member
 abbrev pub heldFor : List ℕ → List ℕ → ℕ → ℕ → ℕ → Bool
 heldFor parents states line owners a = allHeld parents states (lineFor parents line a) owners
 
--- the numbers in the sets of the modes that conflict with a read or a write, where those of the two modes are given
-abbrev pub conflicting : Bool → ℕ → ℕ → ℕ
-conflicting isWrite readers writers = if isWrite then union readers writers else writers
-
--- those at instrument i, where the owners' words are given
+-- the numbers in the sets of the modes that conflict with a read or a write of instrument i, where the owners' words are given
 abbrev pub conflictingAt : Bool → List ℕ → ℕ → ℕ
 conflictingAt isWrite owners i = conflicting isWrite (getD owners (placeOf false i) 0) (getD owners (placeOf true i) 0)
+
+-- one of the numbers stands in a set of instrument i
+abbrev pub standAt : List ℕ → ℕ → ℕ → Bool
+standAt owners numbers i = meet (union (getD owners (placeOf false i) 0) (getD owners (placeOf true i) 0)) numbers
 
 -- ---- rows by the frame's code; any code but the two that are meant is malformed
 

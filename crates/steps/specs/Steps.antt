@@ -5,8 +5,8 @@ use Prim.Native.Nat.{ℕ}
 use lib.Dec.{eqb, ltb}
 use Rattle.rules.specs.Tests.{if_then_else_}
 use Rattle.steps.specs.Arrays.{Arrays}
-use Rattle.steps.specs.Rows.{askRow, busyIn, heldFor, conflictingAt, openAnswer, endAnswer}
-use Rattle.steps.specs.Changes.{familyFreed, opened, asked, ended}
+use Rattle.steps.specs.Rows.{quietRow, askRow, busyIn, heldFor, conflictingAt, standAt, openAnswer, endAnswer}
+use Rattle.steps.specs.Changes.{familyFreed, groupIn, opened, asked, ended, quieted}
 
 -- A step has been taken: the answer is the row, and the arrays after it are the changed ones where it is 0, and else those before it.
 pub record Took (row : ℕ) (changed before : Arrays) (answer : ℕ) (after : Arrays) : Type 0 where
@@ -18,6 +18,10 @@ abbrev pub askAnswer : Bool → Bool → ℕ → ℕ → ℕ → Arrays → ℕ
 askAnswer isWrite busy line a i b =
     askRow (b .states) busy (heldFor (b .parents) (b .states) line (conflictingAt isWrite (b .owners) i) a) a i
 
+-- the row of quiet
+abbrev pub quietAnswer : ℕ → ℕ → Arrays → ℕ
+quietAnswer a i b = quietRow (b .states) (standAt (b .owners) (groupIn (b .states) a) i) a i
+
 -- open top or open sub, by the frame's code
 abbrev pub Opened : ℕ → ℕ → ℕ → Arrays → ℕ → Arrays → Type 0
 Opened code x y before = Took (openAnswer code x y (before .states)) (opened code x y before) before
@@ -26,21 +30,27 @@ Opened code x y before = Took (openAnswer code x y (before .states)) (opened cod
 abbrev pub Asked : Bool → Bool → ℕ → ℕ → ℕ → Arrays → ℕ → Arrays → Type 0
 Asked isWrite busy line a i before = Took (askAnswer isWrite busy line a i before) (asked isWrite a i before) before
 
--- commit or abort, by the frame's code, where `busy` is said of x's running children, and `gone` are to be freed
+-- commit or abort, by the frame's code, where `busy` is said of x's running children, and `gone` are to leave the tree
 abbrev pub Ended : ℕ → Bool → ℕ → ℕ → Arrays → ℕ → Arrays → Type 0
 Ended code busy gone x before = Took (endAnswer code busy x (before .states)) (ended code gone x before) before
+
+-- quiet
+abbrev pub Quieted : ℕ → ℕ → Arrays → ℕ → Arrays → Type 0
+Quieted a i before = Took (quietAnswer a i before) (quieted a i before) before
 
 -- ---- any request, by the frame's code, with what it has to know looked up in the arrays
 
 abbrev pub requestAnswer : ℕ → ℕ → ℕ → Arrays → ℕ
 requestAnswer code x y b =
     if ltb code 3 then openAnswer code x y (b .states)
+    else if eqb code 7 then quietAnswer x y b
     else if ltb code 5 then askAnswer (eqb code 4) (busyIn (b .parents) (b .states) x) 0 x y b
     else endAnswer code (busyIn (b .parents) (b .states) x) x (b .states)
 
 abbrev pub requested : ℕ → ℕ → ℕ → Arrays → Arrays
 requested code x y b =
     if ltb code 3 then opened code x y b
+    else if eqb code 7 then quieted x y b
     else if ltb code 5 then asked (eqb code 4) x y b
     else ended code (familyFreed code x (b .parents)) x b
 

@@ -1,15 +1,15 @@
-// Numbers that have gone leave the arrays of parents and states, and the sets.
+// Numbers of a set get another byte in the arrays of parents and states, or leave the sets.
 ghost use mathlib.Core.Path.{_≡_};
-ghost use Rattle.steps.specs.Changes.{bytesLeft, setsLeft};
+ghost use Rattle.steps.specs.Changes.{bytesPut, setsLeft};
 
-// The numbers that have gone leave an array of 64 bytes.
-pub fn clear_bytes(bytes: &mut [u8; 64], gone: u64)
-    ensures { λ r. ⌜ now (bytes .exit) ≡ bytesLeft gone (now (bytes .entry)) ⌝ }
+// The numbers get another byte in an array of 64.
+pub fn put_bytes(bytes: &mut [u8; 64], numbers: u64, byte: u8)
+    ensures { λ r. ⌜ now (bytes .exit) ≡ bytesPut numbers byte (now (bytes .entry)) ⌝ }
 {
-    let mut rest = gone;
+    let mut rest = numbers;
     while rest != 0 {
         let k = sets::least(rest);
-        bytes[k] = 0;
+        bytes[k] = byte;
         rest = sets::without_least(rest);
     }
 }

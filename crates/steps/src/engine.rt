@@ -1,12 +1,14 @@
 // Requests in place, on parents, states and one slice of owner sets: the read sets of the 128 instruments and then the write sets. No array is copied, and none is
 // tested.
 use crate::ACTIONS;
-use crate::clear::clear_bytes;
 use crate::clear::clear_words;
+use crate::clear::put_bytes;
+use crate::draining::aborted_byte;
+use crate::draining::quiet;
+use crate::draining::stand;
 use crate::rows::ask_row;
 use crate::rows::end_row;
 use crate::rows::open_row;
-use crate::words::conflicting;
 use crate::words::join;
 use crate::words::place;
 use crate::words::word_at;
@@ -14,19 +16,22 @@ use marks::answers::ACCEPTED;
 use marks::codes::ABORT;
 use marks::codes::COMMIT;
 use marks::codes::OPEN_SUB;
+use marks::codes::QUIET;
 use marks::codes::READ;
 use marks::codes::WRITE;
 use marks::states::COMMITTED;
+use marks::states::FREE;
 use marks::states::RUNNING;
 use tree::children::running_child;
 use tree::family::family_of;
+use tree::owners::conflicting;
 ghost use mathlib.Core.List.{[]};
 ghost use mathlib.Core.Path.{_≡_};
 ghost use Prim.Native.Nat.{_%_};
 ghost use lib.ListN.{getD};
 ghost use Rattle.views.specs.Arrays.{freesBy};
 ghost use Rattle.steps.specs.Arrays.{lent};
-ghost use Rattle.steps.specs.Changes.{freed, familyFreed};
+ghost use Rattle.steps.specs.Changes.{freed, aborted, familyFreed};
 ghost use Rattle.steps.specs.Steps.{Opened, Asked, Ended, Requested};
 
 // Open top or open sub, by the frame's code. No set is looked at.
@@ -82,19 +87,30 @@ pub fn free(parents: &mut [u8; 64], states: &mut [u8; 64], owners: &mut [u64], g
         ≡ freed gone (lent (now (parents .entry)) (now (states .entry)) (now (owners .entry)))
         ⌝ }
 {
-    clear_bytes(parents, gone);
-    clear_bytes(states, gone);
+    put_bytes(parents, gone, 0);
+    put_bytes(states, gone, FREE);
     clear_words(owners, gone);
 }
 
-// Whether a commit or an abort, where it is accepted, frees numbers: an abort, or the commit of a number that has no parent.
+// The family of x leaves the tree. Its numbers drain under x where one of them stands in a set, and else become free; no set changes.
+fn abort(parents: &mut [u8; 64], states: &mut [u8; 64], owners: &[u64], family: u64, x: u32)
+    ensures { λ r. ⌜
+        lent (now (parents .exit)) (now (states .exit)) (now (owners .entry))
+        ≡ aborted family x (lent (now (parents .entry)) (now (states .entry)) (now (owners .entry)))
+        ⌝ }
+{
+    put_bytes(parents, family, 0);
+    put_bytes(states, family, aborted_byte(stand(owners, family), x));
+}
+
+// Whether a commit or an abort, where it is accepted, takes a family out of the tree: an abort, or the commit of a number that has no parent.
 pub fn frees(parents: &[u8; 64], code: u8, x: u32) -> bool
     ensures { λ r. ⌜ r ≡ freesBy code (getD (now (parents .entry)) (x % 64) 0) ⌝ }
 {
     (code == ABORT) | (parents[(x % ACTIONS) as usize] == 0)
 }
 
-// Commit or abort, by the frame's code, where `busy` says whether x has a running child, and `gone` is its family if one is to be freed.
+// Commit or abort, by the frame's code, where `busy` says whether x has a running child, and `gone` is its family if one is to leave the tree.
 pub fn end(
     parents: &mut [u8; 64],
     states: &mut [u8; 64],
@@ -113,7 +129,11 @@ pub fn end(
     if answer != ACCEPTED {
         return answer;
     }
-    if frees(parents, code, x) {
+    if code == ABORT {
+        abort(parents, states, owners, gone, x);
+        return answer;
+    }
+    if parents[(x % ACTIONS) as usize] == 0 {
         free(parents, states, owners, gone);
         return answer;
     }
@@ -121,7 +141,7 @@ pub fn end(
     answer
 }
 
-// The family that a commit or an abort frees, and nobody where it frees none.
+// The family that a commit or an abort takes out of the tree, and nobody where it takes none.
 fn family_freed(parents: &[u8; 64], code: u8, x: u32) -> u64
     ensures { λ r. ⌜ r ≡ familyFreed code x (now (parents .entry)) ⌝ }
 {
@@ -131,7 +151,7 @@ fn family_freed(parents: &[u8; 64], code: u8, x: u32) -> u64
     0
 }
 
-// The request of a frame's code and two numbers, for a caller that keeps nothing beside the arrays; a code that is none of the six is malformed.
+// The request of a frame's code and two numbers, for a caller that keeps nothing beside the arrays; a code that is none of the seven is malformed.
 pub fn request(
     parents: &mut [u8; 64],
     states: &mut [u8; 64],
@@ -147,6 +167,9 @@ pub fn request(
 {
     if code < READ {
         return open(parents, states, code, x, y);
+    }
+    if code == QUIET {
+        return quiet(states, owners, x, y);
     }
     let busy = running_child(parents, states, (x % ACTIONS) as u8 + 1);
     if code < COMMIT {

@@ -3,8 +3,8 @@ use crate::INSTRUMENTS;
 ghost use mathlib.Core.Path.{_≡_};
 ghost use lib.ListN.{getD};
 ghost use Rattle.steps.specs.Arrays.{placeOf};
-ghost use Rattle.steps.specs.Rows.{conflicting};
 ghost use Rattle.steps.specs.Changes.{joinedAt};
+ghost use Rattle.tables.specs.OneWord.{leftAt};
 
 // Where the read set of an instrument stands, and its write set.
 pub(crate) fn place(is_write: bool, i: u32) -> usize
@@ -15,16 +15,6 @@ pub(crate) fn place(is_write: bool, i: u32) -> usize
         return 128 + at;
     }
     at
-}
-
-// The numbers in the sets of the modes that conflict with a read or a write.
-pub fn conflicting(is_write: bool, readers: u64, writers: u64) -> u64
-    ensures { λ r. ⌜ r ≡ conflicting «is_write» readers writers ⌝ }
-{
-    if is_write {
-        return sets::union(readers, writers);
-    }
-    writers
 }
 
 // The set at a place; past the end it is empty.
@@ -44,4 +34,20 @@ pub(crate) fn join(words: &mut [u64], at: usize, k: usize)
     if at < words.len() {
         words[at] = sets::with(words[at], k);
     }
+}
+
+// The numbers that have gone leave the set at a place; past the end there is none.
+pub(crate) fn leave(words: &mut [u64], at: usize, gone: u64)
+    ensures { λ r. ⌜ now (words .exit) ≡ leftAt (now (words .entry)) at gone ⌝ }
+{
+    if at < words.len() {
+        words[at] = sets::difference(words[at], gone);
+    }
+}
+
+// The same of 128 sets.
+pub fn leave_one(words: &mut [u64; 128], at: usize, gone: u64)
+    ensures { λ r. ⌜ now (words .exit) ≡ leftAt (now (words .entry)) at gone ⌝ }
+{
+    leave(words, at, gone);
 }

@@ -6,9 +6,9 @@ use lib.ListN.{length, getD}
 use mathlib.Core.List.{List}
 use mathlib.Core.Option.{some}
 use Rattle.rules.specs.Owners.{granted, inFamily}
-use Rattle.rules.specs.Requests.{Request, openTop, openSub, ask, commit, abort, without, effect}
+use Rattle.rules.specs.Requests.{Request, openTop, openSub, ask, commit, abort, quiet, without, effect}
 use Rattle.rules.specs.Answers.{answerOf}
-use Rattle.rules.proofs.Accepted.{Accepted, OpensTop, OpensSub, Asks, Commits, Aborts}
+use Rattle.rules.proofs.Accepted.{Accepted, OpensTop, OpensSub, Asks, Commits, Aborts, Quiets}
 use Rattle.tables.specs.Table.{Layout, Table, view}
 use Rattle.tables.specs.Changes.{marked, placed, withSets}
 use Rattle.tables.specs.Steps.{OutcomeIs}
@@ -65,9 +65,14 @@ module _ (layout : Layout) (t : Table) (answer : ℕ) where
       (step-accepted (layout .shape) (view layout t) (commit a) answer _ e z
       (commit-sub-shown layout t a (rw long (f .known)) (rw (mod-eq-of-lt (f .known)) at sub)))
 
-  pub abort-accepted : (a : ℕ) (next : Table) → view layout next ≡ without (inFamily (layout .shape) (view layout t) (a % n)) (view layout t) →
+  pub abort-accepted : (a : ℕ) (next : Table) → view layout next ≡ effect (layout .shape) (view layout t) (abort (a % n)) →
       answer ≡ answerOf (layout .shape) (view layout t) (abort a) → answer ≡ 0 → OutcomeIs layout (some (abort a)) t answer next
-  unfolding effect
   abort-accepted a next left e z =
       let f : Aborts (layout .shape) (view layout t) a = facts (abort a) e z in
       step-accepted (layout .shape) (view layout t) (abort a) answer (view layout next) e z (rw (mod-eq-of-lt (f .known)) at left)
+
+  pub quiet-accepted : (a i : ℕ) (next : Table) → (a < n → i < layout .shape .instruments → view layout next ≡ effect (layout .shape) (view layout t) (quiet a i)) →
+      answer ≡ answerOf (layout .shape) (view layout t) (quiet a i) → answer ≡ 0 → OutcomeIs layout (some (quiet a i)) t answer next
+  quiet-accepted a i next left e z =
+      let f : Quiets (layout .shape) (view layout t) a i = facts (quiet a i) e z in
+      step-accepted (layout .shape) (view layout t) (quiet a i) answer (view layout next) e z (left (f .known) (f .instrumentKnown))

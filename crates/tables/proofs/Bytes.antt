@@ -37,10 +37,12 @@ pub names-one : (numbers : ℕ → Bool) (x : ℕ) → from (parentOf x) false n
 names-one numbers zero t = clash false t refl
 names-one numbers (suc p) t = let below : suc p - 1 ≡ p = omega arith in rw below (omega arith, t, refl)
 
-pub forbids-committed : (s : ℕ) → (s ≡ 0 → ⊥) → (s ≡ 1 → ⊥) → 1 ≡ forbidsOf s
-forbids-committed zero h g = absurd (h refl)
-forbids-committed (suc zero) h g = absurd (g refl)
-forbids-committed (suc (suc s)) h g = refl
+-- a number that is neither running nor committed forbids both
+pub forbids-both : (s : ℕ) → (s ≡ 1 → ⊥) → (s ≡ 2 → ⊥) → 3 ≡ forbidsOf s
+forbids-both zero h g = refl
+forbids-both (suc zero) h g = absurd (h refl)
+forbids-both (suc (suc zero)) h g = absurd (g refl)
+forbids-both (suc (suc (suc x))) h g = refl
 
 -- two bytes joined are 0 where both are
 pub or-ended : (a b : ℕ) → eqb (bitOr a b) 0 ≡ (eqb a 0 && eqb b 0)

@@ -1,4 +1,4 @@
--- Arrays from which numbers go: bytes one number at a time, sets one place at a time.
+-- Arrays that change place by place: bytes of numbers that get another, one number at a time, and sets, one place at a time. Assumes nothing.
 use mathlib.Core.Path.{_≡_, refl, sym, _∙_}
 use mathlib.Core.Bool.{Bool, true, false, and-true}
 use mathlib.Core.List.{List}
@@ -12,49 +12,77 @@ use lib.Seq.{getD-set-same, getD-set-other}
 use Rattle.sets.specs.Sets.{member, difference}
 use Rattle.sets.proofs.Laws.{member-empty, no-members, member-difference, difference-fits}
 use Rattle.rules.specs.Tests.{if_then_else_}
-use Rattle.rules.proofs.Tests.{by-bool}
-use Rattle.tables.specs.Changes.{kept, Changed}
+use Rattle.rules.proofs.Tests.{by-bool, refuted}
+use Rattle.tables.specs.Changes.{given, kept, Changed}
 use Rattle.tables.proofs.Taken.{Taken}
+
+-- ---- places past the end
+
+-- Where `at` makes nothing of nothing past the end, an array was changed there too.
+pub changed-at : (at : ℕ → ℕ → ℕ) (before after : List ℕ) → Changed at before after → (k : ℕ) → (length before ≤ k → at k 0 ≡ 0) → getD after k 0 ≡ at k (getD before k 0)
+changed-at at before after c k past =
+    by-bool (ltb k (length before)) (λ t. c .each k (ltb-true k (length before) t))
+    (λ t. let l = ltb-false k (length before) t in
+    let nothing : getD before k 0 ≡ 0 = List·getD-eq-default before 0 l in
+    List·getD-eq-default after 0 (rw (c .long) l) ∙ rw (nothing, past l))
+
+-- so where bytes of numbers of the array get another
+pub given-at : (numbers : ℕ → Bool) (value : ℕ) (before after : List ℕ) → Changed (given numbers value) before after → ((k : ℕ) → numbers k ≡ true → k < length before) → (k : ℕ) →
+    getD after k 0 ≡ given numbers value k (getD before k 0)
+given-at numbers value before after c known k =
+    changed-at (given numbers value) before after c k
+    (λ past. rw (refuted (numbers k) (λ u. let l = known k u in omega arith)))
+
+-- and where numbers go
+pub kept-at : (gone : ℕ → Bool) (before after : List ℕ) → Changed (kept gone) before after → (k : ℕ) → getD after k 0 ≡ kept gone k (getD before k 0)
+kept-at gone before after c k = changed-at (kept gone) before after c k (λ past. nothing-kept (gone k))
+  where
+    nothing-kept : (t : Bool) → _≡_ {A = ℕ} (if t then 0 else 0) 0
+    nothing-kept true = refl
+    nothing-kept false = refl
+
+-- no numbers are left of none
+pub difference-empty : (gone : ℕ) → difference 0 gone ≡ 0
+difference-empty gone =
+    no-members 0 (difference 0 gone) (difference-fits 0 0 gone (pow-pos 0))
+    (λ k l. rw (member-difference, member-empty))
 
 -- ---- bytes
 
--- When the numbers that are left go from the bytes, they are as when all numbers go from the bytes at the start.
-pub record Going (n : ℕ) (bytes₀ : List ℕ) (gone : ℕ) (bytes : List ℕ) (rest : ℕ) : Type 0 where
+-- When the numbers that are left get another byte, the array is as when all numbers get it at the start.
+pub record Going (n value : ℕ) (bytes₀ : List ℕ) (gone : ℕ) (bytes : List ℕ) (rest : ℕ) : Type 0 where
   pub fits : rest < 2 ^ n
   pub long : length bytes ≡ length bytes₀
-  pub left : (k : ℕ) → kept (member rest) k (getD bytes k 0) ≡ kept (member gone) k (getD bytes₀ k 0)
+  pub left : (k : ℕ) → k < length bytes₀ → given (member rest) value k (getD bytes k 0) ≡ given (member gone) value k (getD bytes₀ k 0)
 
-pub going-start : (n : ℕ) (bytes : List ℕ) (gone : ℕ) → gone < 2 ^ n → Going n bytes gone bytes gone
-going-start n bytes gone fits = record { fits = fits; long = refl; left = λ k. refl }
+module _ (n value : ℕ) where
+  pub going-start : (bytes : List ℕ) (gone : ℕ) → gone < 2 ^ n → Going n value bytes gone bytes gone
+  going-start bytes gone fits = record { fits = fits; long = refl; left = λ k l. refl }
 
--- a byte that was set to 0 is 0, also past the end
-getD-set-zero : (l : List ℕ) (k : ℕ) → getD (set l k 0) k 0 ≡ 0
-getD-set-zero l k =
-    by-bool (ltb k (length l)) (λ t. getD-set-same l k 0 0 (ltb-true k (length l) t))
-    (λ t. List·getD-eq-default (set l k 0) 0 (rw (length-set l k 0) (ltb-false k (length l) t)))
+  pub going-turn : (bytes₀ : List ℕ) (gone : ℕ) (bytes : List ℕ) (rest k next : ℕ) → Going n value bytes₀ gone bytes rest → Taken n rest k next →
+      Going n value bytes₀ gone (set bytes k value) next
+  going-turn bytes₀ gone bytes rest k next h t =
+      record {
+        fits = t .fits;
+        long = length-set bytes k value ∙ h .long;
+        left = λ j l. by-bool (eqb j k) (λ e. itself j l (eqb-true j k e)) (other j) ∙ h .left j l;
+      }
+    where
+      same-either : (t : Bool) → _≡_ {A = ℕ} (if t then value else value) value
+      same-either true = refl
+      same-either false = refl
 
-nothing-kept : (t : Bool) → _≡_ {A = ℕ} (if t then 0 else 0) 0
-nothing-kept true = refl
-nothing-kept false = refl
+      itself : (j : ℕ) → j < length bytes₀ → j ≡ k → given (member next) value j (getD (set bytes k value) j 0) ≡ given (member rest) value j (getD bytes j 0)
+      itself j l e =
+          let inside : k < length bytes = (let long = h .long in omega arith) in
+          rw (e, getD-set-same bytes k value 0 inside, t .was) (same-either (member next k))
 
-pub going-turn : (n : ℕ) (bytes₀ : List ℕ) (gone : ℕ) (bytes : List ℕ) (rest k next : ℕ) → Going n bytes₀ gone bytes rest → Taken n rest k next →
-    Going n bytes₀ gone (set bytes k 0) next
-going-turn n bytes₀ gone bytes rest k next h t =
-    record {
-      fits = t .fits;
-      long = length-set bytes k 0 ∙ h .long;
-      left = λ j. by-bool (eqb j k) (λ e. itself j (eqb-true j k e)) (other j) ∙ h .left j;
-    }
-  where
-    itself : (j : ℕ) → j ≡ k → kept (member next) j (getD (set bytes k 0) j 0) ≡ kept (member rest) j (getD bytes j 0)
-    itself j e = rw (e, getD-set-zero bytes k, t .was) (nothing-kept (member next k))
+      other : (j : ℕ) → eqb j k ≡ false → given (member next) value j (getD (set bytes k value) j 0) ≡ given (member rest) value j (getD bytes j 0)
+      other j e = rw (getD-set-other bytes k j value 0 (eqb-false j k e), t .members j, e, and-true)
 
-    other : (j : ℕ) → eqb j k ≡ false → kept (member next) j (getD (set bytes k 0) j 0) ≡ kept (member rest) j (getD bytes j 0)
-    other j e = rw (getD-set-other bytes k j 0 0 (eqb-false j k e), t .members j, e, and-true)
-
-pub going-end : (n : ℕ) (bytes₀ : List ℕ) (gone : ℕ) (bytes : List ℕ) (rest : ℕ) → rest ≡ 0 → Going n bytes₀ gone bytes rest → Changed (kept (member gone)) bytes₀ bytes
-going-end n bytes₀ gone bytes rest e h =
-    record { long = h .long; each = λ k. sym (rw (e, member-empty k)) ∙ h .left k }
+  pub going-end : (bytes₀ : List ℕ) (gone : ℕ) (bytes : List ℕ) (rest : ℕ) → rest ≡ 0 → Going n value bytes₀ gone bytes rest → Changed (given (member gone) value) bytes₀ bytes
+  going-end bytes₀ gone bytes rest e h =
+      record { long = h .long; each = λ k l. sym (rw (e, member-empty k)) ∙ h .left k l }
 
 -- ---- words
 
@@ -82,19 +110,5 @@ module _ (count : ℕ) (at : ℕ → ℕ → ℕ) where
       itself j e =
           rw (e, getD-set-same words i (at i (getD words i 0)) 0 (rw (h .long) l), h .left i (omega arith))
 
-  -- Where `at` makes nothing of nothing, all words are changed, those past the end too.
-  pub cleared-all : (words₀ words : List ℕ) → ((j : ℕ) → at j 0 ≡ 0) → length words₀ ≡ count → ClearedTo count at words₀ words count → Changed at words₀ words
-  cleared-all words₀ words nothing long h = record { long = h .long ∙ sym long; each = each }
-    where
-      each : (j : ℕ) → getD words j 0 ≡ at j (getD words₀ j 0)
-      each j =
-          by-bool (ltb j count) (λ t. h .done j (ltb-true j count t))
-          (λ t. let l = ltb-false j count t in
-          let past : getD words₀ j 0 ≡ 0 = List·getD-eq-default words₀ 0 (rw long l) in
-          h .left j l ∙ rw (past, nothing j))
-
--- no numbers are left of none
-pub difference-empty : (gone : ℕ) → difference 0 gone ≡ 0
-difference-empty gone =
-    no-members 0 (difference 0 gone) (difference-fits 0 0 gone (pow-pos 0))
-    (λ k l. rw (member-difference, member-empty))
+  pub cleared-all : (words₀ words : List ℕ) → length words₀ ≡ count → ClearedTo count at words₀ words count → Changed at words₀ words
+  cleared-all words₀ words long h = record { long = h .long ∙ sym long; each = λ j l. h .done j (omega arith) }

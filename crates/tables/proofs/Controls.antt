@@ -17,8 +17,8 @@ use Rattle.rules.specs.Sound.{standsNowhere, reachesTop, sound}
 use Rattle.rules.specs.Requests.{ask, commit, put}
 use Rattle.rules.specs.Answers.{rowBy, answerOf}
 use Rattle.rules.proofs.Tests.{by-bool, clash}
-use Rattle.tables.specs.Table.{Layout, Table, stateOf, view}
-use Rattle.tables.specs.Tree.{upOf, tree, treeShape, SoundTree, knownUp, inLine, descends, metFrom}
+use Rattle.tables.specs.Table.{Layout, Table, view}
+use Rattle.tables.specs.Tree.{upOf, tree, treeShape, treeStateOf, SoundTree, knownUp, inLine, descends, metFrom}
 use Rattle.tables.specs.Owners.{ownersInLine}
 use Rattle.tables.specs.Climbs.{EndOutside}
 use Rattle.tables.specs.Changes.{marked, withSets}
@@ -28,7 +28,7 @@ use Rattle.tables.proofs.Climbs.{Leads, parent, farther, ring-endless, 
 use Rattle.tables.proofs.InPlace.{ask-in-place, commit-sub-in-place}
 
 -- Number k is bit k % 2 of word k / 2 of its set.
-abbrev small : Layout
+abbrev pub small : Layout
 small =
     record {
       shape = record { actions = 3; instruments = 2; modes = 3; conflict = λ asked held. ltb 1 (asked + held) };
@@ -37,12 +37,12 @@ small =
     }
 
 -- 1 and 2 run under 0, and 2 stands at instrument 0 in mode 1.
-abbrev siblings : Table
+abbrev pub siblings : Table
 siblings = record { parents = 0 ∷ 1 ∷ 1 ∷ []; states = 1 ∷ 1 ∷ 1 ∷ []; sets = put 1 (0 ∷ 1 ∷ 0 ∷ 0 ∷ []) (λ m. replicate 4 0) }
 
 -- ---- soundness
 
-siblings-sound : SoundTable small siblings
+pub siblings-sound : SoundTable small siblings
 unfolding sound standsNowhere reachesTop all member
 siblings-sound =
     record {
@@ -137,7 +137,7 @@ family-of-one = (refl, refl, refl)
 
 -- A climb of one number less than the table has misses an heir, though the tree is sound.
 climb-too-short : ((parents states : List ℕ) → SoundTree 3 parents states → (k : ℕ) → k < 3 →
-    nearest 2 (λ j. stateOf (getD states j 0)) (knownUp 3 parents) k ≡ heir (treeShape 3) (tree parents states) k) → ⊥
+    nearest 2 (λ j. treeStateOf (getD states j 0)) (knownUp 3 parents) k ≡ heir (treeShape 3) (tree parents states) k) → ⊥
 unfolding heir nearest
 climb-too-short h = Option·none-ne-some 0 (h chained handedUp chain-sound 2 (omega arith))
 

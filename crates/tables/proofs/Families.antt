@@ -76,6 +76,14 @@ module _ (n : ℕ) (parents : List ℕ) (ok : SoundParents n parents) where
   unfolding isAncestor inFamily
   descends-child a k p l e = family-child (treeShape n) (tree parents (ok .0)) (ok .1) a k p l (rw e)
 
+  -- a descendant of a number of the table is one too
+  pub descends-known : length parents ≡ n → (a k : ℕ) → a < n → descends n parents a k ≡ true → k < n
+  descends-known long a k la d =
+      by-bool (ltb k n) (ltb-true k n)
+      (λ t. let past = List·getD-eq-default parents 0 (rw long (ltb-false k n t)) in
+      let e = eqb-true k a (sym (descends-top a k past) ∙ d) in
+      omega arith)
+
   -- a number whose parent is in a set of descendants is a descendant
   descends-adopted : (a set k : ℕ) → k < n → ((j : ℕ) → member set j ≡ true → descends n parents a j ≡ true) → parentIn set (getD parents k 0) ≡ true →
       descends n parents a k ≡ true

@@ -1,12 +1,12 @@
 -- Owners from which one of a line is met going up before any other number that runs, of any bytes; and on a sound bench, that these are the owners whose
 -- heir is the asker or an ancestor of it. Assumes nothing.
 use mathlib.Core.Path.{_≡_, refl, sym, _∙_, ap}
-use mathlib.Core.Bool.{Bool, true, false, or-false}
+use mathlib.Core.Bool.{Bool, true, false}
 use mathlib.Core.List.{List}
 use mathlib.Core.Option.{Option, none, some, Option·none-ne-some}
-use Prim.Native.Nat.{ℕ, zero, suc, _-_, _<_}
+use Prim.Native.Nat.{ℕ, suc, _-_, _<_}
 use native.Mathlib.Omega.{arith}
-use borrow.Author.Tests.{eqb-true, eqb-false, ne-eqb}
+use borrow.Author.Tests.{eqb-true, ne-eqb}
 use lib.Dec.{eqb}
 use lib.ListN.{getD}
 use Rattle.sets.specs.Sets.{member, meet, least}
@@ -14,14 +14,13 @@ use Rattle.sets.proofs.Laws.{member-empty}
 use Rattle.rules.specs.Tests.{_⇒_, from, all}
 use Rattle.rules.specs.Bench.{isRunning}
 use Rattle.rules.specs.Owners.{above, isAncestor, isAskerOrAncestor, nearest, heir, heirInLine}
-use Rattle.rules.proofs.Tests.{by-bool, by-or, by-parent, clash, implies, implied, refuted, all-at, all-by, all-cong}
+use Rattle.rules.proofs.Tests.{by-bool, by-or, clash, implies, implied, refuted, all-at, all-by, all-cong}
 use Rattle.rules.proofs.Walks.{ancestor-runs}
-use Rattle.tables.specs.Tree.{treeShape, knownUp, upOf, tree, SoundTree, inLine}
-use Rattle.tables.specs.Table.{stateOf}
+use Rattle.tables.specs.Tree.{treeShape, treeStateOf, knownUp, upOf, tree, SoundTree, inLine}
 use Rattle.tables.specs.Owners.{ownersInLine}
 use Rattle.tables.specs.Reach.{reaches, waitsFor, heldBy, allHeld, Met}
 use Rattle.tables.proofs.Named.{up-byte}
-use Rattle.tables.proofs.Heirs.{not-running, nearest-heir}
+use Rattle.tables.proofs.Heirs.{not-running, met-nearest, nearest-heir}
 use Rattle.tables.proofs.Reaching.{reaches-soon}
 use Rattle.tables.proofs.Sorting.{Sorting, sorting-takes}
 
@@ -34,7 +33,7 @@ module _ (n : ℕ) (parents states : List ℕ) where
   pub waits-up : (x : ℕ) → (getD states x 0 ≡ 1 → ⊥) → waitsFor n parents states x ≡ knownUp n parents x
   waits-up x e = rw (ne-eqb (getD states x 0) 1 e)
 
-  waits-known : (k p : ℕ) → waitsFor n parents states k ≡ some p → p < n
+  pub waits-known : (k p : ℕ) → waitsFor n parents states k ≡ some p → p < n
   waits-known k p e =
       by-bool (eqb (getD states k 0) 1) (λ t. absurd (Option·none-ne-some p (rw t at e))) (λ t. up-byte n parents k p (rw t at e) .1)
 
@@ -67,40 +66,30 @@ module _ (n : ℕ) (parents states : List ℕ) where
 
 -- ---- on a sound bench, with the line of a running asker
 
-module _ (n : ℕ) (parents states : List ℕ) (ok : SoundTree n parents states) (a : ℕ) (la : a < n) (runs : isRunning (stateOf (getD states a 0)) ≡ true) (line : ℕ → Bool)
+module _ (n : ℕ) (parents states : List ℕ) (ok : SoundTree n parents states) (a : ℕ) (la : a < n) (runs : isRunning (treeStateOf (getD states a 0)) ≡ true) (line : ℕ → Bool)
     (lined : (k : ℕ) → line k ≡ inLine n parents a k) where
   -- a number that doesn't run isn't of the line
-  not-of-line : (k : ℕ) → isRunning (stateOf (getD states k 0)) ≡ false → line k ≡ false
+  not-of-line : (k : ℕ) → isRunning (treeStateOf (getD states k 0)) ≡ false → line k ≡ false
   unfolding isAncestor
   not-of-line k waits =
       refuted (line k)
-      (λ m. clash (isRunning (stateOf (getD states k 0)))
+      (λ m. clash (isRunning (treeStateOf (getD states k 0)))
       (by-or (eqb k a) (above n (upOf parents) k a) (sym (lined k) ∙ m) (λ e. rw (eqb-true k a e) runs)
       (ancestor-runs (treeShape n) (tree parents states) ok k a la runs))
       waits)
 
   -- so one of the line is met before any other number that runs where the nearest running one is of the line
-  met-nearest : (reach k : ℕ) → reaches reach line (waitsFor n parents states) k ≡ from (nearest (suc reach) (λ j. stateOf (getD states j 0)) (knownUp n parents) k) false line
-  unfolding reaches nearest
-  met-nearest zero k =
-      by-bool (eqb (getD states k 0) 1) (λ t. rw (eqb-true (getD states k 0) 1 t))
-      (λ t. let waits = not-running (getD states k 0) (eqb-false (getD states k 0) 1 t) in rw (waits, not-of-line k waits) (nobody (knownUp n parents k)))
-    where
-      nobody : (o : Option ℕ) → false ≡ from {A = Bool} (from {A = Option ℕ} o none (λ p. none)) false line
-      nobody none = refl
-      nobody (some p) = refl
-  met-nearest (suc reach) k =
-      by-bool (eqb (getD states k 0) 1) (λ t. rw (eqb-true (getD states k 0) 1 t) (or-false (line k)))
-      (λ t. let waits = not-running (getD states k 0) (eqb-false (getD states k 0) 1 t) in
-      rw (waits, not-of-line k waits, t)
-      (by-parent (knownUp n parents k) (λ e. rw e) (λ p e. rw e (met-nearest reach p))))
+  line-nearest : (reach k : ℕ) → k < n → reaches reach line (waitsFor n parents states) k ≡ from (nearest (suc reach) (λ j. treeStateOf (getD states j 0)) (knownUp n parents) k) false line
+  line-nearest =
+      met-nearest n parents states line line (λ k. k < n) (λ k p l e. up-byte n parents k p e .1) (λ k l e. refl)
+      (λ k l e. not-of-line k (not-running (getD states k 0) e))
 
   -- each owner is held in the asker's line where the heir of each is the asker or an ancestor of it
   pub held-in-line : (owners : ℕ) → allHeld n parents states line owners ≡ ownersInLine n parents states (member owners) a
   unfolding ownersInLine heirInLine isAskerOrAncestor isAncestor
   held-in-line owners =
       all-cong n (λ k. member owners k ⇒ heldBy n parents states line k) (λ k. member owners k ⇒ heirInLine (treeShape n) (tree parents states) a k)
-      (λ k l. ap (λ t. member owners k ⇒ t) (rw (counted k l) at (met-nearest (n - 1) k) ∙ rw (nearest-heir n parents states ok k l)
+      (λ k l. ap (λ t. member owners k ⇒ t) (rw (counted k l) at (line-nearest (n - 1) k l) ∙ rw (nearest-heir n parents states ok k l)
       (lines (heir (treeShape n) (tree parents states) k))))
     where
       counted : (k : ℕ) → k < n → suc (n - 1) ≡ n

@@ -16,12 +16,11 @@ use Rattle.rules.specs.Owners.{isChild, isAncestor, inFamily}
 use Rattle.rules.specs.Sound.{sound}
 use Rattle.rules.specs.Requests.{openTop, openSub, ask, commit, put, without, effect}
 use Rattle.rules.proofs.Tests.{by-bool, by-parent, clash, same, refuted, by-or, from-cong}
-use Rattle.rules.proofs.Facts.{SoundNumber, sound-facts}
-use Rattle.rules.proofs.Kept.{runs-in-use}
+use Rattle.rules.proofs.Facts.{tree-in-use, runs-in-use, SoundNumber, sound-facts}
 use Rattle.rules.proofs.Family.{family-child}
 use Rattle.rules.proofs.Accepted.{OpensTop, OpensSub}
 use Rattle.tables.specs.Index.{LineSets, Indexed}
-use Rattle.tables.proofs.Stores.{store-shown, with-shown}
+use Rattle.tables.proofs.Stores.{store-shown, with-shown, left-shown}
 use Rattle.rules.proofs.SetForm.{eqb-comm}
 
 -- benches that agree in states and parents have the same sets
@@ -37,14 +36,6 @@ indexed-same n b c children lines runs states parents h =
       ofRunning = λ k lk. rw (states k) (h .ofRunning k lk);
     }
 
--- the numbers of a set leave one set of a list
-left-shown : (l : List ℕ) (p gone q k : ℕ) → p < length l → member (getD (set l p (difference (getD l p 0) gone)) q 0) k ≡ (member (getD l q 0) k && not (eqb q p && member gone k))
-left-shown l p gone q k lp =
-    store-shown (λ s. member s k) l p (difference (getD l p 0) gone) q lp
-    ∙ by-bool (eqb q p)
-    (λ t. rw (t, eqb-true q p t) (member-difference (getD l p 0) gone k))
-    (λ t. rw t (sym (and-true (member (getD l q 0) k))))
-
 module _ (sh : Shape) (b : Bench) (ok : sound sh b ≡ true) where
   abbrev n : ℕ
   n = sh .actions
@@ -54,7 +45,7 @@ module _ (sh : Shape) (b : Bench) (ok : sound sh b ≡ true) where
 
   -- a parent isn't free, so a free number is nobody's parent
   parent-not-free : (new k p : ℕ) → k < n → isFree (b .state new) ≡ true → b .parent k ≡ some p → p ≡ new → ⊥
-  parent-not-free new k p lk free e same = clash (isFree (b .state new)) free (rw same at (facts k lk .parentInUse p e))
+  parent-not-free new k p lk free e same = clash (isFree (b .state new)) free (tree-in-use (b .state new) (rw same at (facts k lk .parentInTree p e)))
 
   free-childless : (new k : ℕ) → k < n → isFree (b .state new) ≡ true → isChild b new k ≡ false
   free-childless new k lk free =

@@ -1,6 +1,6 @@
 -- What an answer has to know of its action, told by the sets that a player keeps beside the arrays; and those sets as they are first made. Assumes nothing.
 use mathlib.Core.Path.{_≡_, sym, _∙_, ap}
-use mathlib.Core.Bool.{Bool, true, false, _&&_, _||_, and-comm}
+use mathlib.Core.Bool.{true, false, _&&_, _||_, and-comm}
 use mathlib.Core.List.{List}
 use Prim.Native.Nat.{ℕ, suc, _%_, _<_, _^_}
 use native.Mathlib.Nat.{mod-eq-of-lt}
@@ -8,18 +8,20 @@ use native.Mathlib.Numerals.{add-one}
 use lib.Dec.{eqb}
 use lib.ListN.{length, getD}
 use Rattle.sets.specs.Sets.{member, meet}
-use Rattle.sets.proofs.Laws.{member-inside, apart-at, meet-common, below-pow}
-use Rattle.rules.specs.Tests.{from, any}
+use Rattle.sets.proofs.Laws.{member-inside}
+use Rattle.rules.specs.Tests.{from}
 use Rattle.rules.specs.Bench.{Shape, Bench, isFree, isRunning}
 use Rattle.rules.specs.Owners.{isChild, isAncestor, isAskerOrAncestor, hasRunningChild}
 use Rattle.rules.specs.Sound.{sound}
-use Rattle.rules.proofs.Tests.{by-bool, by-parent, clash, same, and-left, and-right, from-cong, any-at, any-by}
-use Rattle.rules.proofs.Facts.{SoundNumber, sound-facts}
+use Rattle.rules.proofs.Tests.{by-parent, from-cong}
+use Rattle.rules.proofs.Facts.{tree-in-use, SoundNumber, sound-facts}
 use Rattle.rules.proofs.Walks.{climb, ancestor-none, ancestor-up}
-use Rattle.tables.specs.Table.{stateOf, parentOf}
-use Rattle.tables.specs.Tree.{tree, treeShape, SoundTree, inLine}
+use Rattle.tables.specs.Table.{parentOf}
+use Rattle.tables.specs.Tree.{tree, treeShape, treeStateOf, SoundTree, inLine}
 use Rattle.tables.specs.Index.{ChildSets, LineSets, RunningSet, Indexed, KnowsChild, KnowsLine}
-use Rattle.tables.proofs.ViewLaws.{running-byte, child-byte}
+use Rattle.tables.proofs.ViewLaws.{child-byte}
+use Rattle.tables.proofs.States.{tree-running-byte}
+use Rattle.tables.proofs.Members.{meet-any}
 use Rattle.rules.proofs.SetForm.{eqb-comm}
 
 module _ (sh : Shape) (b : Bench) (ok : sound sh b ≡ true) where
@@ -44,28 +46,15 @@ module _ (sh : Shape) (b : Bench) (ok : sound sh b ≡ true) where
   line-known lines h =
       climb sh b ok (λ a. isFree (b .state a) ≡ false → (k : ℕ) → member (getD lines a 0) k ≡ isAskerOrAncestor sh b a k)
       (λ a la e u k. rw (line-step a k la, e) (rw e at (h .each a k la u)))
-      (λ a p la lp e above u k. rw (line-step a k la, e, ← above (facts a la .parentInUse p e) k) (rw e at (h .each a k la u)))
+      (λ a p la lp e above u k. rw (line-step a k la, e, ← above (tree-in-use (b .state p) (facts a la .parentInTree p e)) k) (rw e at (h .each a k la u)))
 
   -- A number's children and the running numbers have one in common exactly if it has a running child, where those that they have in common are of the table.
   busy-by : (children : List ℕ) (runs : ℕ) → ChildSets n b children → RunningSet n b runs → (a : ℕ) → a < n → isFree (b .state a) ≡ false →
       ((k : ℕ) → member (getD children a 0) k ≡ true → member runs k ≡ true → k < n) → meet (getD children a 0) runs ≡ hasRunningChild sh b a
   unfolding hasRunningChild
   busy-by children runs c r a la u small =
-      same (meet own runs) (any n test)
-      (λ m. let found = meet-common own own runs (below-pow own) m in
-      let l = small (found .0) (and-left (member own (found .0)) (member runs (found .0)) (found .2)) (and-right (member own (found .0)) (member runs (found .0)) (found .2)) in
-      any-by n test (found .0) l (sym (common (found .0) l) ∙ found .2))
-      (λ t. let found = any-at n test t in
-      by-bool (meet own runs) (λ m. m) (λ new. clash (test (found .0)) (found .2) (sym (common (found .0) (found .1)) ∙ apart-at own runs new (found .0))))
-    where
-      own : ℕ
-      own = getD children a 0
-
-      test : ℕ → Bool
-      test k = isRunning (b .state k) && isChild b a k
-
-      common : (k : ℕ) → k < n → (member own k && member runs k) ≡ test k
-      common k lk = rw (c .each a k la lk u, r k lk) (and-comm (isChild b a k) (isRunning (b .state k)))
+      meet-any n (getD children a 0) runs (λ k. isRunning (b .state k) && isChild b a k) small
+      (λ k lk. rw (c .each a k la lk u, r k lk) (and-comm (isChild b a k) (isRunning (b .state k))))
 
   -- They are where either of the two is a word of n digits.
   pub busy-known : (children : List ℕ) (runs : ℕ) → ChildSets n b children → RunningSet n b runs → (a : ℕ) → a < n → isFree (b .state a) ≡ false →
@@ -80,7 +69,7 @@ module _ (sh : Shape) (b : Bench) (ok : sound sh b ≡ true) where
 
 -- a number's line, as bytes tell it
 pub line-known-bytes : (n : ℕ) (parents states : List ℕ) → SoundTree n parents states → (lines : List ℕ) → LineSets n (tree parents states) lines → (a : ℕ) → a < n →
-    isFree (stateOf (getD states a 0)) ≡ false → (k : ℕ) → member (getD lines a 0) k ≡ inLine n parents a k
+    isFree (treeStateOf (getD states a 0)) ≡ false → (k : ℕ) → member (getD lines a 0) k ≡ inLine n parents a k
 unfolding isAskerOrAncestor isAncestor
 line-known-bytes n parents states ok lines h a la u k = line-known (treeShape n) (tree parents states) ok lines h a la u k
 
@@ -112,5 +101,5 @@ indexed-built n parents states ok children lines runs c l r =
             (from-cong (parentOf (getD parents k 0)) false (λ p t. t) (λ p. inLine n parents p x) (λ p. member (getD lines p 0) x)
             (λ p e. sym (l .1 p (facts (treeShape n) (tree parents states) ok k lk .parentKnown p e) x)));
       };
-      ofRunning = λ k lk. r k lk ∙ sym (running-byte (getD states k 0));
+      ofRunning = λ k lk. r k lk ∙ sym (tree-running-byte (getD states k 0));
     }

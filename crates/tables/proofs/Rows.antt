@@ -1,37 +1,39 @@
--- Rows of the answers. Those of an ask lie on those of a commit by the same action, and look at the sets only to grant: from a row found on
--- parents, states and the conflicting sets to the answer on the whole bench. Assumes nothing.
+-- Rows of the answers. Those of an ask lie on those of a commit by the same action, and look at the sets only to grant; those of quiet look at one byte and at the
+-- instrument's sets. From a row found on parents, states and these sets to the answer on the whole bench. Assumes nothing.
 use mathlib.Core.Path.{_≡_, sym, _∙_}
-use mathlib.Core.Bool.{Bool, true, false, not, _&&_}
-use mathlib.Core.List.{List, []}
+use mathlib.Core.Bool.{Bool, true, false, not, _&&_, _||_}
+use mathlib.Core.List.{List}
 use Prim.Native.Nat.{ℕ, _+_, _%_, _<_}
-use native.Mathlib.Nat.{mod-lt, mod-eq-of-lt}
+use native.Mathlib.Nat.{mod-eq-of-lt}
 use borrow.Author.Tests.{leb-false, lt-leb, not-false}
 use lib.Dec.{eqb, leb}
 use lib.ListN.{getD}
 use Rattle.rules.specs.Tests.{if_then_else_, any}
 use Rattle.rules.specs.Bench as rules
 use Rattle.rules.specs.Bench.{Shape, isRunning}
-use Rattle.rules.specs.Owners.{granted, hasRunningChild}
-use Rattle.rules.specs.Requests.{openSub, ask, commit}
+use Rattle.rules.specs.Owners.{granted, hasRunningChild, drainsUnder, standAt}
+use Rattle.rules.specs.Requests.{openSub, ask, commit, quiet}
 use Rattle.rules.specs.Answers.{row, rowBy, answerOf}
 use Rattle.rules.specs.Sound.{sound}
 use Rattle.rules.proofs.Tests.{by-bool}
 use Rattle.rules.proofs.Accepted.{Commits, accepted}
 use Rattle.tables.specs.Table.{Layout, Table, view}
-use Rattle.tables.specs.Tree.{tree, treeShape, SoundTree}
-use Rattle.tables.specs.Owners.{InUse, ownersInLine, TellsOwners}
+use Rattle.tables.specs.Tree.{tree, bare, treeShape}
+use Rattle.tables.specs.Owners.{ownersInLine, TellsOwners}
 use Rattle.tables.specs.Index.{KnowsChild}
-use Rattle.tables.proofs.ViewLaws.{running-byte, running-child-found, granted-owned, tree-sound, owned-in-use}
+use Rattle.tables.proofs.States.{running-byte, tree-runs}
+use Rattle.tables.proofs.ViewLaws.{running-child-found, running-child-shown, granted-owned}
+use Rattle.tables.proofs.Groups.{group-byte}
 use Rattle.tables.proofs.Steps.{answer-sound}
 
 -- ---- the last row of open sub, and of commit
 
 -- k is free and p is known: `runs` is whether p runs
 pub open-sub-last : (n : ℕ) (states : List ℕ) (k p : ℕ) (runs : Bool) → k < n → p < n → getD states k 0 ≡ 0 → eqb (getD states p 0) 1 ≡ runs →
-    (if runs then 0 else 4) ≡ row (treeShape n) (tree [] states) (openSub k p)
+    (if runs then 0 else 4) ≡ row (treeShape n) (bare n states) (openSub k p)
 unfolding rowBy
 open-sub-last n states k p runs hk hp free e =
-    rw (lt-leb n k hk, lt-leb n p hp, free, running-byte (getD states p 0), e) (by-bool runs (λ t. rw t) (λ t. rw t))
+    rw (lt-leb n k hk, lt-leb n p hp, free, running-byte n (getD states p 0), e) (by-bool runs (λ t. rw t) (λ t. rw t))
 
 -- a is known and runs: `child` is whether it has a running child, as `found`
 pub commit-last : (n : ℕ) (parents states : List ℕ) (a : ℕ) (found child : Bool) → a < n → getD states a 0 ≡ 1 → KnowsChild n parents states a found → found ≡ child →
@@ -58,8 +60,8 @@ module _ (sh : Shape) (parents states : List ℕ) (owned : ℕ → Bool) (a i bu
   before = tree parents states
 
   pub may-commit : busy ≡ 0 → Commits (treeShape (sh .actions)) (tree parents states) a
-  may-commit quiet =
-      accepted (granted (treeShape (sh .actions)) (tree parents states)) (treeShape (sh .actions)) (tree parents states) (commit a) (sym e ∙ quiet)
+  may-commit accepts =
+      accepted (granted (treeShape (sh .actions)) (tree parents states)) (treeShape (sh .actions)) (tree parents states) (commit a) (sym e ∙ accepts)
 
   -- a's running children don't hang on instruments and modes
   commits : busy ≡ row sh before (commit a)
@@ -82,33 +84,65 @@ module _ (sh : Shape) (parents states : List ℕ) (owned : ℕ → Bool) (a i bu
   pub ask-last : busy ≡ 0 → (line held : Bool) → line ≡ ownersInLine (sh .actions) parents states owned a → not line ≡ held →
       (if held then 6 else 0) ≡ askRow sh parents states owned a i
   unfolding rowBy before
-  ask-last quiet line held found t =
-      let f : Commits sh before a = accepted (granted sh before) sh before (commit a) (sym commits ∙ quiet) in
+  ask-last accepts line held found t =
+      let f : Commits sh before a = accepted (granted sh before) sh before (commit a) (sym commits ∙ accepts) in
       rw (lt-leb (sh .actions) a (f .known), lt-leb (sh .instruments) i known, f .runs, f .noRunningChild, ← found, t)
 
+-- ---- quiet
+
+-- the row of quiet a, i where `stands` says whether one of those that drain under a stands at i
+abbrev pub quietRow : Shape → List ℕ → Bool → ℕ → ℕ → ℕ
+quietRow sh states stands a i =
+    if leb (sh .actions) a then 1
+    else if leb (sh .instruments) i then 2
+    else if not (eqb (getD states a 0) (3 + a)) || not stands then 10
+    else 0
+
+-- ---- from the rows of bytes to those of the bench
+
 module _ (layout : Layout) (t : Table) where
-  -- Where `owned` tells what is granted at a known instrument, the row is that of the whole bench.
+  -- running children don't hang on instruments and modes
+  child-shown : (a : ℕ) → hasRunningChild (layout .shape) (tree (t .parents) (t .states)) a ≡ hasRunningChild (layout .shape) (view layout t) a
+  unfolding hasRunningChild
+  child-shown a = running-child-shown layout t a
+
+  pub commit-row-shown : (a : ℕ) → row (treeShape (layout .shape .actions)) (tree (t .parents) (t .states)) (commit a) ≡ row (layout .shape) (view layout t) (commit a)
+  unfolding rowBy
+  commit-row-shown a = rw (tree-runs (layout .shape .actions) (getD (t .states) a 0), running-child-shown layout t a)
+
+  -- Where `owned` tells what is granted to a running action at a known instrument, the row is that of the whole bench.
   ask-row-shown : (owned : ℕ → Bool) (m a i : ℕ) →
-      (i < layout .shape .instruments → granted (layout .shape) (view layout t) m a i ≡ ownersInLine (layout .shape .actions) (t .parents) (t .states) owned a) →
+      (a < layout .shape .actions → i < layout .shape .instruments → isRunning (view layout t .state a) ≡ true →
+      granted (layout .shape) (view layout t) m a i ≡ ownersInLine (layout .shape .actions) (t .parents) (t .states) owned a) →
       askRow (layout .shape) (t .parents) (t .states) owned a i ≡ row (layout .shape) (view layout t) (ask m a i)
-  unfolding rowBy hasRunningChild
+  unfolding rowBy
   ask-row-shown owned m a i e =
-      by-bool (leb (layout .shape .instruments) i) (λ high. rw high) (λ low. rw (low, e (leb-false (layout .shape .instruments) i low)))
+      by-bool (leb (layout .shape .actions) a) (λ high. rw high)
+      (λ low. by-bool (leb (layout .shape .instruments) i) (λ high. rw (low, high))
+      (λ known. rw (low, known, tree-runs (layout .shape .actions) (getD (t .states) a 0), child-shown a)
+      (by-bool (isRunning (view layout t .state a))
+      (λ runs. rw (runs, e (leb-false (layout .shape .actions) a low) (leb-false (layout .shape .instruments) i known) runs))
+      (λ rests. rw rests))))
 
-  -- `ok` is what the soundness test found, and `owned` tells who stands at the instrument in a set of a conflicting mode
-  module _ (ok : Bool) (e : ok ≡ sound (layout .shape) (view layout t)) (h : not ok ≡ false)
-      (m i : ℕ) (owned : ℕ → Bool) (tells : TellsOwners layout t m (i % layout .shape .instruments) owned) where
-    is-sound : sound (layout .shape) (view layout t) ≡ true
-    is-sound = sym e ∙ not-false ok h
+  pub quiet-row-shown : (stands : Bool) (a i : ℕ) →
+      (a < layout .shape .actions → i < layout .shape .instruments → stands ≡ standAt (layout .shape) (view layout t) (drainsUnder (view layout t) a) i) →
+      quietRow (layout .shape) (t .states) stands a i ≡ row (layout .shape) (view layout t) (quiet a i)
+  unfolding rowBy
+  quiet-row-shown stands a i e =
+      by-bool (leb (layout .shape .actions) a) (λ high. rw high)
+      (λ low. by-bool (leb (layout .shape .instruments) i) (λ high. rw (low, high))
+      (λ known. let la = leb-false (layout .shape .actions) a low in
+      rw (low, known, group-byte layout t a a la, e la (leb-false (layout .shape .instruments) i known))))
 
-    pub ask-requires : 0 < layout .shape .instruments → SoundTree (layout .shape .actions) (t .parents) (t .states) × InUse (layout .shape .actions) (t .states) owned
-    ask-requires nonempty = (
-      tree-sound layout t is-sound,
-      owned-in-use layout t is-sound m (i % layout .shape .instruments) owned (mod-lt i nonempty) tells,
-    )
+  -- `ok` is what the soundness test found
+  module _ (ok : Bool) (e : ok ≡ sound (layout .shape) (view layout t)) (h : not ok ≡ false) where
+    pub found-sound : sound (layout .shape) (view layout t) ≡ true
+    found-sound = sym e ∙ not-false ok h
 
-    pub ask-answered : (a answer : ℕ) → answer ≡ askRow (layout .shape) (t .parents) (t .states) owned a i → answer ≡ answerOf (layout .shape) (view layout t) (ask m a i)
-    ask-answered a answer found =
+    -- and `owned` tells who stands at the instrument in a set of a conflicting mode
+    pub ask-answered : (m i : ℕ) (owned : ℕ → Bool) → TellsOwners layout t m (i % layout .shape .instruments) owned → (a answer : ℕ) →
+        answer ≡ askRow (layout .shape) (t .parents) (t .states) owned a i → answer ≡ answerOf (layout .shape) (view layout t) (ask m a i)
+    ask-answered m i owned tells a answer found =
         found
-        ∙ ask-row-shown owned m a i (λ known. granted-owned layout t m a i owned (rw (mod-eq-of-lt known) at tells))
+        ∙ ask-row-shown owned m a i (λ la known runs. granted-owned layout t found-sound a la runs m i owned (rw (mod-eq-of-lt known) at tells))
         ∙ answer-sound (layout .shape) (view layout t) (ask m a i) ok e h

@@ -1,23 +1,24 @@
 -- How stores show in the view: the table after a request's stores is read as the bench that the request leaves. Assumes nothing.
 use mathlib.Core.Path.{_≡_, refl, sym, _∙_, ap}
-use mathlib.Core.Bool.{Bool, true, false, not, _&&_, _||_, or-false}
+use mathlib.Core.Bool.{Bool, true, false, not, _&&_, _||_, or-false, and-true, and-false}
 use mathlib.Core.List.{List}
-use Prim.Native.Nat.{ℕ, zero, suc, _<_}
+use Prim.Native.Nat.{ℕ, zero, suc, _+_, _<_}
 use native.Mathlib.Numerals.{add-one}
 use borrow.Author.Tests.{eqb-true, eqb-false}
 use lib.Dec.{eqb}
 use lib.ListN.{length, getD, set, replicate}
 use lib.Seq.{getD-set-same, getD-set-other}
-use Rattle.sets.specs.Sets.{member, with}
-use Rattle.sets.proofs.Laws.{member-with}
+use Rattle.sets.specs.Sets.{member, with, difference}
+use Rattle.sets.proofs.Laws.{member-with, member-difference}
 use Rattle.rules.specs.Tests.{if_then_else_, from}
 use Rattle.rules.specs.Bench as rules
-use Rattle.rules.specs.Owners.{isAncestor, inFamily}
-use Rattle.rules.specs.Requests.{openTop, openSub, ask, commit, put, without, effect}
+use Rattle.rules.specs.Owners.{isAncestor, inFamily, drainsUnder, standSomewhere}
+use Rattle.rules.specs.Requests.{openTop, openSub, ask, commit, quiet, put, without, drained, quieted, effect}
 use Rattle.rules.proofs.Tests.{by-bool}
 use Rattle.tables.specs.Table.{Layout, Table, stateOf, parentOf, view}
 use Rattle.tables.specs.Tree.{descends}
-use Rattle.tables.specs.Changes.{kept, marked, placed, withSets}
+use Rattle.tables.specs.Changes.{given, kept, marked, placed, withBytes, withSets}
+use Rattle.tables.proofs.States.{draining-byte}
 
 -- benches that agree at every number, mode and instrument are the same bench
 pub same-bench : (b c : rules.Bench) → ((k : ℕ) → b .state k ≡ c .state k) → ((k : ℕ) → b .parent k ≡ c .parent k) →
@@ -41,6 +42,15 @@ with-shown n l a i at k la li =
     (λ t. rw (t, eqb-true at i t) (member-with n (getD l i 0) a k la))
     (λ t. rw t (sym (or-false (member (getD l at 0) k))))
 
+-- the numbers of a set leave one set of a list
+pub left-shown : (l : List ℕ) (i gone at k : ℕ) → i < length l →
+    member (getD (set l i (difference (getD l i 0) gone)) at 0) k ≡ (member (getD l at 0) k && not (eqb at i && member gone k))
+left-shown l i gone at k li =
+    store-shown (λ s. member s k) l i (difference (getD l i 0) gone) at li
+    ∙ by-bool (eqb at i)
+    (λ t. rw (t, eqb-true at i t) (member-difference (getD l i 0) gone k))
+    (λ t. rw t (sym (and-true (member (getD l at 0) k))))
+
 -- ---- an empty table
 
 pub zeros : (n k : ℕ) → _≡_ {A = ℕ} (getD (replicate n 0) k 0) 0
@@ -52,7 +62,7 @@ pub empty-shown : (layout : Layout) (n : ℕ) (sets : ℕ → List ℕ) → ((m 
     view layout (record { parents = replicate n 0; states = replicate n 0; sets = sets }) ≡ rules.empty
 empty-shown layout n sets nobody =
     same-bench (view layout (record { parents = replicate n 0; states = replicate n 0; sets = sets })) rules.empty
-    (λ k. ap stateOf (zeros n k))
+    (λ k. ap (stateOf (layout .shape .actions)) (zeros n k))
     (λ k. ap parentOf (zeros n k))
     nobody
 
@@ -64,9 +74,10 @@ module _ (layout : Layout) (t : Table) where
 
   -- one number's state
   mark-shown : (n v : ℕ) → n < length (t .states) →
-      view layout (marked t n v) ≡ record { state = put n (stateOf v) (before .state); parent = before .parent; stands = before .stands }
+      view layout (marked t n v) ≡ record { state = put n (stateOf (layout .shape .actions) v) (before .state); parent = before .parent; stands = before .stands }
   unfolding before
-  mark-shown n v h = λ j. record { state = λ k. store-shown stateOf (t .states) n v k h j; parent = before .parent; stands = before .stands }
+  mark-shown n v h =
+      λ j. record { state = λ k. store-shown (stateOf (layout .shape .actions)) (t .states) n v k h j; parent = before .parent; stands = before .stands }
 
   pub open-top-shown : (n : ℕ) → n < length (t .states) → view layout (marked t n 1) ≡ effect (layout .shape) (view layout t) (openTop n)
   unfolding effect before
@@ -78,7 +89,7 @@ module _ (layout : Layout) (t : Table) where
       rw add-one
       (same-bench (view layout (record { parents = set (t .parents) n (suc p); states = set (t .states) n 1; sets = t .sets }))
       (effect (layout .shape) (view layout t) (openSub n p))
-      (λ k. store-shown stateOf (t .states) n 1 k hs)
+      (λ k. store-shown (stateOf (layout .shape .actions)) (t .states) n 1 k hs)
       (λ k. store-shown parentOf (t .parents) n (suc p) k hp)
       (λ m i k. refl))
 
@@ -96,6 +107,10 @@ module _ (layout : Layout) (t : Table) where
       Asked m a i (put m words (t .sets))
   asked-one m a i words grown held at k =
       by-bool (eqb held m) (λ e. rw (e, eqb-true held m e) (grown at k)) (λ e. rw e (sym (or-false (layout .holds (t .sets held) at k))))
+
+  -- Sets that the numbers of a group have left at instrument i.
+  abbrev pub Quieted : (ℕ → Bool) → ℕ → (ℕ → List ℕ) → Type 0
+  Quieted group i sets = (m at k : ℕ) → layout .holds (sets m) at k ≡ (layout .holds (t .sets m) at k && not (eqb at i && group k))
 
   -- commit of a top: its family is gone
   pub commit-top-shown : (a : ℕ) (next : rules.Bench) → getD (t .parents) a 0 ≡ 0 → next ≡ without (inFamily (layout .shape) (view layout t) a) (view layout t) →
@@ -116,10 +131,10 @@ module _ (layout : Layout) (t : Table) where
 
 -- ---- numbers that have gone
 
--- a byte that is kept or not, told by a test that says the same
-kept-shown : {A : Type 0} (f : ℕ → A) (t u : Bool) (after before : ℕ) → t ≡ u → after ≡ (if t then 0 else before) → f after ≡ (if u then f 0 else f before)
-kept-shown f true u after before e h = rw (← e) (ap f h)
-kept-shown f false u after before e h = rw (← e) (ap f h)
+-- a byte that was replaced or not, told by a test that says the same
+given-shown : {A : Type 0} (f : ℕ → A) (t u : Bool) (value after before : ℕ) → t ≡ u → after ≡ (if t then value else before) → f after ≡ (if u then f value else f before)
+given-shown f true u value after before e h = rw (← e) (ap f h)
+given-shown f false u value after before e h = rw (← e) (ap f h)
 
 -- A table after the numbers that are `gone` have left it, and before.
 pub record Cleared (layout : Layout) (gone : ℕ → Bool) (before after : Table) : Type 0 where
@@ -131,8 +146,8 @@ pub cleared-shown : (layout : Layout) (gone test : ℕ → Bool) (before after :
     view layout after ≡ without test (view layout before)
 cleared-shown layout gone test before after e c =
     same-bench (view layout after) (without test (view layout before))
-    (λ k. kept-shown stateOf (gone k) (test k) (getD (after .states) k 0) (getD (before .states) k 0) (e k) (c .statesKept k))
-    (λ k. kept-shown parentOf (gone k) (test k) (getD (after .parents) k 0) (getD (before .parents) k 0) (e k) (c .parentsKept k))
+    (λ k. given-shown (stateOf (layout .shape .actions)) (gone k) (test k) 0 (getD (after .states) k 0) (getD (before .states) k 0) (e k) (c .statesKept k))
+    (λ k. given-shown parentOf (gone k) (test k) 0 (getD (after .parents) k 0) (getD (before .parents) k 0) (e k) (c .parentsKept k))
     (λ m i k. c .setsLeft m i k ∙ rw (e k))
 
 -- A family that has left the table has left the bench.
@@ -140,3 +155,83 @@ pub family-left : (layout : Layout) (before after : Table) (a : ℕ) (gone : ℕ
     Cleared layout gone before after → view layout after ≡ without (inFamily (layout .shape) (view layout before) a) (view layout before)
 unfolding inFamily isAncestor
 family-left layout before after a gone e c = cleared-shown layout gone (inFamily (layout .shape) (view layout before) a) before after e c
+
+-- sets as they were, where none of the numbers that have gone stands in any
+untouched : (stands gone : Bool) → (gone ≡ true → stands ≡ false) → stands ≡ (stands && not gone)
+untouched stands true nobody = nobody refl ∙ sym (and-false stands)
+untouched stands false nobody = sym (and-true stands)
+
+-- ---- an abort
+
+-- Numbers that have left the tree, and have another state's byte; the sets are as they were.
+pub record Uprooted (gone : ℕ → Bool) (value : ℕ) (t : Table) (parents states : List ℕ) : Type 0 where
+  pub parentsKept : (k : ℕ) → getD parents k 0 ≡ kept gone k (getD (t .parents) k 0)
+  pub statesGiven : (k : ℕ) → getD states k 0 ≡ given gone value k (getD (t .states) k 0)
+
+module _ (layout : Layout) (t : Table) (a : ℕ) (gone : ℕ → Bool) (family : (k : ℕ) → gone k ≡ descends (layout .shape .actions) (t .parents) a k)
+    (parents states : List ℕ) where
+  -- A family that has the byte of those that drain under a does so.
+  pub family-drained : a < layout .shape .actions → Uprooted gone (3 + a) t parents states →
+      view layout (withBytes t parents states) ≡ drained a (inFamily (layout .shape) (view layout t) a) (view layout t)
+  unfolding inFamily isAncestor
+  family-drained la u =
+      same-bench (view layout (withBytes t parents states)) (drained a (inFamily (layout .shape) (view layout t) a) (view layout t))
+      (λ k. rw (← draining-byte (layout .shape .actions) a la)
+      (given-shown (stateOf (layout .shape .actions)) (gone k) (descends (layout .shape .actions) (t .parents) a k) (3 + a) (getD states k 0) (getD (t .states) k 0)
+      (family k) (u .statesGiven k)))
+      (λ k. given-shown parentOf (gone k) (descends (layout .shape .actions) (t .parents) a k) 0 (getD parents k 0) (getD (t .parents) k 0) (family k) (u .parentsKept k))
+      (λ m i k. refl)
+
+  -- A family that stands in no set leaves no set when it is freed.
+  pub family-freed : ((m i k : ℕ) → gone k ≡ true → layout .holds (t .sets m) i k ≡ false) → Uprooted gone 0 t parents states →
+      view layout (withBytes t parents states) ≡ without (inFamily (layout .shape) (view layout t) a) (view layout t)
+  family-freed nobody u =
+      family-left layout t (withBytes t parents states) a gone family
+      (record {
+        parentsKept = u .parentsKept;
+        statesKept = u .statesGiven;
+        setsLeft = λ m i k. untouched (layout .holds (t .sets m) i k) (gone k) (nobody m i k);
+      })
+
+-- ---- quiet
+
+module _ (layout : Layout) (t : Table) (a i : ℕ) (group : ℕ → Bool) (grouped : (k : ℕ) → group k ≡ drainsUnder (view layout t) a k)
+    (sets : ℕ → List ℕ) (left : Quieted layout t group i sets) where
+  -- the group by the rules' own test
+  same-group : group ≡ drainsUnder (view layout t) a
+  same-group = λ j k. grouped k j
+
+  quieted-shown : view layout (withSets t sets) ≡ quieted (drainsUnder (view layout t) a) i (view layout t)
+  quieted-shown =
+      same-bench (view layout (withSets t sets)) (quieted (drainsUnder (view layout t) a) i (view layout t)) (λ k. refl) (λ k. refl)
+      (λ m at k. left m at k ∙ ap (λ u. layout .holds (t .sets m) at k && not (eqb at i && u)) (grouped k))
+
+  -- whether one of the group is still in a set, on the table and on the bench
+  still-stands : (stands : Bool) → standSomewhere (layout .shape) (view layout (withSets t sets)) group ≡ stands →
+      standSomewhere (layout .shape) (quieted (drainsUnder (view layout t) a) i (view layout t)) (drainsUnder (view layout t) a) ≡ stands
+  still-stands stands e =
+      ap (λ b. standSomewhere (layout .shape) b (drainsUnder (view layout t) a)) (sym quieted-shown)
+      ∙ ap (λ f. standSomewhere (layout .shape) (view layout (withSets t sets)) f) (sym same-group)
+      ∙ e
+
+  -- A group that is still in a set goes on draining.
+  pub quiet-stays-shown : standSomewhere (layout .shape) (view layout (withSets t sets)) group ≡ true →
+      view layout (withSets t sets) ≡ effect (layout .shape) (view layout t) (quiet a i)
+  unfolding effect
+  quiet-stays-shown e = rw (still-stands true e) quieted-shown
+
+  -- A group that is in none is freed. It has no parents.
+  pub quiet-frees-shown : (states : List ℕ) → ((k : ℕ) → getD states k 0 ≡ kept group k (getD (t .states) k 0)) → ((k : ℕ) → group k ≡ true → getD (t .parents) k 0 ≡ 0) →
+      ((m at k : ℕ) → group k ≡ true → layout .holds (sets m) at k ≡ false) → standSomewhere (layout .shape) (view layout (withSets t sets)) group ≡ false →
+      view layout (withBytes (withSets t sets) (t .parents) states) ≡ effect (layout .shape) (view layout t) (quiet a i)
+  unfolding effect
+  quiet-frees-shown states freed tops nobody e =
+      rw (still-stands false e)
+      (cleared-shown layout group (drainsUnder (view layout t) a) t (withBytes (withSets t sets) (t .parents) states) grouped
+      (record {
+        parentsKept = λ k. by-bool (group k) (λ u. rw (u, tops k u)) (λ u. rw u);
+        statesKept = freed;
+        setsLeft = λ m at k.
+            by-bool (group k) (λ u. rw u (nobody m at k u ∙ sym (and-false (layout .holds (t .sets m) at k))))
+            (λ u. rw u (left m at k ∙ rw (u, and-false (eqb at i))));
+      }))

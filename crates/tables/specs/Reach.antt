@@ -1,13 +1,13 @@
 -- Going up from a number, by parents' bytes of any value, until a number is met that is asked for: owners held in a line, and descendants.
-use mathlib.Core.Bool.{Bool, true, false, _||_}
+use mathlib.Core.Bool.{Bool, true, false, _&&_, _||_}
 use mathlib.Core.List.{List}
 use mathlib.Core.Option.{Option, none}
 use mathlib.Core.Path.{_≡_}
-use Prim.Native.Nat.{ℕ, zero, suc, _-_, _<_}
+use Prim.Native.Nat.{ℕ, zero, suc, _+_, _-_, _<_}
 use lib.Dec.{eqb}
 use lib.ListN.{getD}
 use Rattle.sets.specs.Sets.{member, meet}
-use Rattle.rules.specs.Tests.{if_then_else_, from}
+use Rattle.rules.specs.Tests.{if_then_else_, any, from}
 use Rattle.tables.specs.Tree.{knownUp, metFrom}
 use Rattle.tables.specs.Owners.{ofMembers}
 
@@ -33,6 +33,14 @@ heldBy n parents states inLine k = reaches (n - 1) inLine (waitsFor n parents st
 -- each owner is held so
 abbrev pub allHeld : ℕ → List ℕ → List ℕ → (ℕ → Bool) → ℕ → Bool
 allHeld n parents states inLine owners = ofMembers n owners (heldBy n parents states inLine)
+
+-- what k stands in is h's: k runs and is h, or k drains under h
+abbrev pub holdsFor : List ℕ → ℕ → ℕ → Bool
+holdsFor states h k = (eqb (getD states k 0) 1 && eqb k h) || eqb (getD states k 0) (3 + h)
+
+-- h owns a set: going up from one of its numbers, not past one that runs, one is met that holds for h
+abbrev pub ownsSet : ℕ → List ℕ → List ℕ → ℕ → ℕ → Bool
+ownsSet n parents states set h = any n (λ k. member set k && reaches (n - 1) (holdsFor states h) (waitsFor n parents states) k)
 
 -- going up from k by parents that are known, a is met, k among them, within n steps
 abbrev pub descendsKnown : ℕ → List ℕ → ℕ → ℕ → Bool

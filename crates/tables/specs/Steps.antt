@@ -9,7 +9,7 @@ use lib.ListN.{length, getD}
 use Rattle.rules.specs.Tests.{if_then_else_}
 use Rattle.rules.specs.Owners.{inFamily}
 use Rattle.rules.specs.Sound.{sound}
-use Rattle.rules.specs.Requests.{Request, commit, abort, without}
+use Rattle.rules.specs.Requests.{Request, commit, abort, without, effect}
 use Rattle.rules.specs.Answers.{Outcome, answered}
 use Rattle.tables.specs.Table.{Layout, Table, view}
 use Rattle.tables.specs.Tree.{tree}
@@ -20,6 +20,10 @@ pub record Long (layout : Layout) (t : Table) : Type 0 where
   pub parentsLong : length (t .parents) ≡ layout .shape .actions
   pub statesLong : length (t .states) ≡ layout .shape .actions
   pub setsLong : (m : ℕ) → m < layout .shape .modes → length (t .sets m) ≡ layout .words
+
+-- Nobody stands in a set that the table doesn't have.
+abbrev pub Bounded : Layout → Table → Type 0
+Bounded layout t = (m i k : ℕ) → layout .holds (t .sets m) i k ≡ true → (m < layout .shape .modes) × (i < layout .shape .instruments)
 
 -- The table of a sound bench.
 pub record SoundTable (layout : Layout) (t : Table) : Type 0 where
@@ -56,11 +60,11 @@ KnownIndex n isSound parents states children lines running = isSound ≡ true �
 abbrev pub ending : Bool → ℕ → Request
 ending aborts a = if aborts then abort a else commit a
 
--- It frees a family where it is accepted: an abort, or the commit of a top, whose parent's byte is 0.
+-- Where it is accepted a family leaves the tree with it: an abort's, which may drain, or that of a top that commits, whose parent's byte is 0, which is freed.
 abbrev pub freesBy : Bool → ℕ → Bool
 freesBy aborts up = aborts || eqb up 0
 
--- What the commit or the abort of x frees: the family of x where it frees one, and nobody where it frees none.
+-- What leaves the tree with the commit or the abort of x: the family of x where one does, and else nobody.
 pub record FreedIn (n : ℕ) (parents states : List ℕ) (aborts : Bool) (x gone : ℕ) : Type 0 where
   pub family : freesBy aborts (getD parents (x % n) 0) ≡ true → KnowsFamily n parents states x gone
   pub nobody : freesBy aborts (getD parents (x % n) 0) ≡ false → gone ≡ 0
@@ -68,4 +72,9 @@ pub record FreedIn (n : ℕ) (parents states : List ℕ) (aborts : Bool) (x gone
 -- The family of a has left the table.
 pub record Freed (layout : Layout) (a : ℕ) (before after : Table) : Type 0 where
   pub left : view layout after ≡ without (inFamily (layout .shape) (view layout before) a) (view layout before)
+  pub long : Long layout after
+
+-- The family of a has been aborted: it drains under a where one of it stands in a set, and else it has left the table.
+pub record Aborted (layout : Layout) (a : ℕ) (before after : Table) : Type 0 where
+  pub left : view layout after ≡ effect (layout .shape) (view layout before) (abort a)
   pub long : Long layout after

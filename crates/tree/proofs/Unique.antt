@@ -1,5 +1,5 @@
--- The contracts that are not equations have one result each: a word of 64 bits is told by its members, and 64 words by their places. (Those of `heir`,
--- `all_held`, `running_child` and `has_child` are equations.) Assumes nothing.
+-- The contracts that are not equations have one result each: a word of 64 bits is told by its members, and 64 words by their places. (Those of `all_held`,
+-- `conflicting`, `running_child` and `has_child` are equations.) Assumes nothing.
 use mathlib.Core.Bool.{Bool, _&&_}
 use mathlib.Core.List.{List}
 use mathlib.Core.Path.{_≡_, sym, _∙_}
@@ -11,7 +11,7 @@ use lib.Seq.{ext-getD}
 use Rattle.sets.specs.Sets.{member}
 use Rattle.sets.proofs.Laws.{same-members}
 use Rattle.views.specs.Tree.{metFrom}
-use Rattle.views.specs.Reach.{descendsKnown, LinesMet}
+use Rattle.views.specs.Reach.{ownsSet, descendsKnown, LinesMet}
 
 -- ---- one word
 
@@ -29,6 +29,10 @@ family-unique parents a r s fits fits' er es = word-unique (λ k. ltb k 64 && de
 pub running-unique : (states : List ℕ) (r s : ℕ) → r < 2 ^ 64 → s < 2 ^ 64 → ((k : ℕ) → k < 64 → member r k ≡ eqb (getD states k 0) 1) →
     ((k : ℕ) → k < 64 → member s k ≡ eqb (getD states k 0) 1) → r ≡ s
 running-unique states r s = word-unique (λ k. eqb (getD states k 0) 1) r s
+
+pub owners-unique : (parents states : List ℕ) (set r s : ℕ) → r < 2 ^ 64 → s < 2 ^ 64 → ((h : ℕ) → h < 64 → member r h ≡ ownsSet parents states set h) →
+    ((h : ℕ) → h < 64 → member s h ≡ ownsSet parents states set h) → r ≡ s
+owners-unique parents states set r s = word-unique (ownsSet parents states set) r s
 
 -- ---- 64 words
 

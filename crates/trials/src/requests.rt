@@ -4,8 +4,8 @@ ghost use Rattle.trials.specs.Asked.{requestOf};
 use bench::Bench;
 use bench::Reply;
 
-// What the bench makes of a code and two numbers, of which the second may have no meaning: 1 open top, 2 open sub, 3 read, 4 write, 5 commit, and any
-// other abort.
+// What the bench makes of a code and two numbers, of which the second may have no meaning: 1 open top, 2 open sub, 3 read, 4 write, 5 commit, 6 abort, and
+// any other quiet.
 pub fn asked(b: Bench, code: u64, first: u32, second: u32) -> Reply
     ensures { λ r. ⌜ Returns b (requestOf code first second) r ⌝ }
 {
@@ -24,5 +24,8 @@ pub fn asked(b: Bench, code: u64, first: u32, second: u32) -> Reply
     if code == 5 {
         return b.commit(first);
     }
-    b.abort(first)
+    if code == 6 {
+        return b.abort(first);
+    }
+    b.quiet(first, second)
 }

@@ -17,12 +17,13 @@ use Rattle.rules.specs.ReadWrite.{readWrite, modeOf}
 use Rattle.tables.specs.Owners.{TellsOwners}
 use Rattle.tables.specs.Steps.{OutcomeIs}
 use Rattle.tables.proofs.Stores.{Asked, with-shown}
-use Rattle.tables.proofs.Rows.{askRow, ask-requires, ask-answered}
+use Rattle.tables.proofs.Rows.{askRow, found-sound, ask-answered}
+use Rattle.tables.proofs.ViewLaws.{tree-sound}
 use Rattle.tables.proofs.Accepts.{ask-accepted}
 use Rattle.tables.proofs.InPlace as tables
 use Rattle.views.specs.View.{layout, arrays, setsOf, view}
 use Rattle.views.specs.Tree.{SoundTree}
-use Rattle.views.specs.Owners.{InUse, conflictingAt}
+use Rattle.views.specs.Owners.{conflictingAt}
 use Rattle.views.specs.Arrays.{SoundArrays, Stepped}
 use Rattle.views.proofs.Words.{reads-long, writes-long}
 
@@ -44,19 +45,16 @@ module _ (parents states reads writes : List ℕ) where
       (or-comm (member (getD reads i 0) k) (member (getD writes i 0) k)
       ∙ ap (λ x. member (getD writes i 0) k || x) (sym (or-false (member (getD reads i 0) k))))
 
-  -- `ok` is what the soundness test found, and the owners are those in the conflicting sets
-  module _ (ok : Bool) (e : ok ≡ sound readWrite (view parents states reads writes)) (h : not ok ≡ false)
-      (isWrite : Bool) (i owners : ℕ) (are : owners ≡ conflictingAt reads writes isWrite (i % 128)) where
-    pub asked-requires : SoundTree parents states × InUse states owners
-    asked-requires =
-        ask-requires layout (arrays parents states reads writes) ok e h (modeOf isWrite) i (member owners)
-        (conflicting-tells isWrite (i % 128) owners are) (omega arith)
+  -- `ok` is what the soundness test found
+  module _ (ok : Bool) (e : ok ≡ sound readWrite (view parents states reads writes)) (h : not ok ≡ false) where
+    pub asked-tree : SoundTree parents states
+    asked-tree = tree-sound layout (arrays parents states reads writes) (found-sound layout (arrays parents states reads writes) ok e h)
 
-    pub asked-answered : (a answer : ℕ) → answer ≡ askRow readWrite parents states (member owners) a i →
-        answer ≡ answerOf readWrite (view parents states reads writes) (ask (modeOf isWrite) a i)
-    asked-answered a answer row =
-        ask-answered layout (arrays parents states reads writes) ok e h (modeOf isWrite) i (member owners)
-        (conflicting-tells isWrite (i % 128) owners are) a answer row
+    -- the owners are those in the conflicting sets
+    pub asked-answered : (isWrite : Bool) (i owners : ℕ) → owners ≡ conflictingAt reads writes isWrite (i % 128) → (a answer : ℕ) →
+        answer ≡ askRow readWrite parents states (member owners) a i → answer ≡ answerOf readWrite (view parents states reads writes) (ask (modeOf isWrite) a i)
+    asked-answered isWrite i owners are =
+        ask-answered layout (arrays parents states reads writes) ok e h (modeOf isWrite) i (member owners) (conflicting-tells isWrite (i % 128) owners are)
 
   -- ---- what is stored
 

@@ -1,34 +1,38 @@
--- The four arrays as one table: their lengths, the numbers that stand in their sets, and a family that has left them. Assumes nothing.
+-- The four arrays as one table: their lengths, the numbers that stand in their sets, and a family that has left them or drains. Assumes nothing.
 use mathlib.Core.Path.{_≡_, refl, sym, _∙_, ap}
-use mathlib.Core.Bool.{Bool, false, _||_, or-false, or-comm}
+use mathlib.Core.Bool.{Bool, true, false, _||_, or-false, or-comm}
 use mathlib.Core.List.{List}
-use Prim.Native.Nat.{ℕ, zero, suc, _<_}
+use Prim.Native.Nat.{ℕ, zero, suc, _+_, _<_, _^_}
 use native.Mathlib.Omega.{arith}
-use lib.ListN.{length, getD, replicate}
-use Rattle.sets.specs.Sets.{member, union, difference}
+use borrow.Author.Tests.{ltb-true, ltb-false}
+use lib.Dec.{ltb}
+use lib.ListN.{length, getD, replicate, List·getD-eq-default}
+use Rattle.sets.specs.Sets.{member, union, difference, meet}
 use Rattle.sets.proofs.Laws.{member-union, member-empty}
-use Rattle.rules.specs.Tests.{all, any}
+use Rattle.rules.specs.Tests.{if_then_else_, all, any}
 use Rattle.rules.specs.Bench as rules
 use Rattle.rules.specs.Owners.{inFamily}
 use Rattle.rules.specs.Requests.{without}
 use Rattle.rules.specs.Sound.{sound, reachesTop}
 use Rattle.rules.specs.ReadWrite.{readWrite}
-use Rattle.rules.proofs.Tests.{and-left, and-right, by-or, or-left, or-right, any-at, any-by, any-cong, same}
+use Rattle.rules.proofs.Tests.{by-bool, clash, and-left, and-right, by-or, or-left, or-right, any-at, any-by, any-cong, same}
 use Rattle.tables.specs.Table.{Table}
 use Rattle.tables.specs.Tree.{upOf}
 use Rattle.tables.specs.Owners as tables
+use Rattle.tables.specs.Owners.{TellsStanding}
 use Rattle.tables.specs.Soundness.{permitted}
 use Rattle.tables.specs.Changes.{Changed}
-use Rattle.tables.specs.Steps.{Long}
-use Rattle.tables.proofs.SoundParts.{parts-sound, sound-fits, sound-permits, sound-ends, sound-standing}
+use Rattle.tables.specs.Steps.{Long, Bounded}
+use Rattle.tables.proofs.SoundParts.{standing-decides, sound-fits, sound-permits, sound-ends, sound-standing, sound-groups}
 use Rattle.tables.proofs.Stores as stores
-use Rattle.tables.proofs.Cleared.{difference-empty}
-use Rattle.tables.proofs.OneWord.{nobody-in-zeros, words-cleared}
+use Rattle.tables.proofs.InPlace as in-place
+use Rattle.tables.proofs.OneWord.{nobody-in-zeros, words-cleared, word-stands}
 use Rattle.views.specs.View.{layout, arrays, setsOf, view}
 use Rattle.views.specs.Tree.{descends}
-use Rattle.views.specs.Owners.{standsAt}
+use Rattle.views.specs.Owners.{standsAt, Standing}
 use Rattle.views.specs.Soundness.{bytesFit, soundWith}
-use Rattle.views.specs.Families.{kept}
+use Rattle.views.specs.Families.{given, kept}
+use Rattle.views.specs.Arrays.{SoundArrays, Aborted}
 
 -- ---- lengths
 
@@ -48,6 +52,21 @@ module _ {parents states reads writes : List ℕ} where
   pub writes-long : Long layout (arrays parents states reads writes) → length writes ≡ 128
   writes-long h = h .setsLong 1 (omega arith)
 
+-- past the ends of the sets nobody stands
+pub arrays-bounded : (parents states reads writes : List ℕ) → length reads ≡ 128 → length writes ≡ 128 → Bounded layout (arrays parents states reads writes)
+arrays-bounded parents states reads writes readsLong writesLong = bounded
+  where
+    inside : (words : List ℕ) → length words ≡ 128 → (i k : ℕ) → member (getD words i 0) k ≡ true → i < 128
+    inside words long i k m =
+        by-bool (ltb i 128) (ltb-true i 128)
+        (λ t. let nothing : getD words i 0 ≡ 0 = List·getD-eq-default words 0 (rw long (ltb-false i 128 t)) in
+        clash (member 0 k) (rw nothing at m) (member-empty k))
+
+    bounded : (m i k : ℕ) → layout .holds (setsOf m reads writes) i k ≡ true → (m < 2) × (i < 128)
+    bounded zero i k m = (omega arith, inside reads readsLong i k m)
+    bounded (suc zero) i k m = (omega arith, inside writes writesLong i k m)
+    bounded (suc (suc mode)) i k m = clash (member 0 k) m (member-empty k)
+
 -- ---- arrays of zeros
 
 pub empty-shown : view (replicate 64 0) (replicate 64 0) (replicate 128 0) (replicate 128 0) ≡ rules.empty
@@ -58,13 +77,12 @@ empty-shown = stores.empty-shown layout 64 (λ m. setsOf m (replicate 128 0) (re
     nobody (suc zero) i k = nobody-in-zeros readWrite 128 i k
     nobody (suc (suc m)) i k = member-empty k
 
--- ---- soundness
+-- ---- numbers that stand in sets
 
 -- The numbers that stand in a read set, with those that stand in a write set, are those that stand in a set.
 pub standing-both : (reads writes : List ℕ) (readers writers numbers : ℕ) → length reads ≡ 128 → length writes ≡ 128 →
     ((k : ℕ) → member readers k ≡ any (length reads) (λ i. member (getD reads i 0) k)) →
-    ((k : ℕ) → member writers k ≡ any (length writes) (λ i. member (getD writes i 0) k)) → numbers ≡ union readers writers →
-    (k : ℕ) → member numbers k ≡ any 128 (standsAt reads writes k)
+    ((k : ℕ) → member writers k ≡ any (length writes) (λ i. member (getD writes i 0) k)) → numbers ≡ union readers writers → Standing reads writes numbers
 standing-both reads writes readers writers numbers readsLong writesLong inReads inWrites both k =
     rw (both, member-union, inReads k, inWrites k, readsLong, writesLong) (any-either 128 (λ i. member (getD reads i 0) k) (λ i. member (getD writes i 0) k))
   where
@@ -79,35 +97,39 @@ standing-both reads writes readers writers numbers readsLong writesLong inReads 
         (λ x. or-left (any n f) (any n g) (any-by n f (a .0) (a .1) x))
         (λ x. or-right (any n f) (any n g) (any-by n g (a .0) (a .1) x)))
 
-module _ (parents states reads writes : List ℕ) (numbers : ℕ) (standing : (k : ℕ) → member numbers k ≡ any 128 (standsAt reads writes k)) where
+module _ (parents states reads writes : List ℕ) where
   abbrev table : Table
   table = arrays parents states reads writes
 
   -- the two modes one by one
-  gathered : (k : ℕ) → k < 64 → member numbers k ≡ any 128 (tables.standsAt layout table k)
+  pub stands-at : (k i : ℕ) → standsAt reads writes k i ≡ tables.standsAt layout table k i
   unfolding any
-  gathered k l =
-      standing k
-      ∙ any-cong 128 (standsAt reads writes k) (tables.standsAt layout table k)
-      (λ i li. or-comm (member (getD reads i 0) k) (member (getD writes i 0) k) ∙ ap (λ x. member (getD writes i 0) k || x) (sym (or-false (member (getD reads i 0) k))))
+  stands-at k i =
+      or-comm (member (getD reads i 0) k) (member (getD writes i 0) k) ∙ ap (λ x. member (getD writes i 0) k || x) (sym (or-false (member (getD reads i 0) k)))
 
-  -- What the soundness test computes is soundness.
-  pub sound-with : soundWith parents states numbers ≡ sound readWrite (view parents states reads writes)
-  sound-with =
-      same (soundWith parents states numbers) (sound readWrite (view parents states reads writes))
-      (λ h.
-      let fits = and-left (all 64 (bytesFit parents states)) _ h in
-      let more = and-right (all 64 (bytesFit parents states)) _ h in
-      let permits = and-left (all 64 (permitted parents states)) _ more in
-      let most = and-right (all 64 (permitted parents states)) _ more in
-      parts-sound layout table (member numbers) gathered fits permits
-      (and-left (all 64 (reachesTop 63 (upOf parents))) _ most) (and-right (all 64 (reachesTop 63 (upOf parents))) _ most))
-      (λ ok. rw (
-        sound-fits layout table ok,
-        sound-permits layout table ok,
-        sound-ends layout table ok,
-        sound-standing layout table (member numbers) gathered ok,
-      ))
+  module _ (numbers : ℕ) (standing : Standing reads writes numbers) where
+    pub tells-standing : TellsStanding layout table (member numbers)
+    tells-standing k l = standing k ∙ any-cong 128 (standsAt reads writes k) (tables.standsAt layout table k) (λ i li. stands-at k i)
+
+    -- What the soundness test computes is soundness.
+    pub sound-with : soundWith parents states numbers ≡ sound readWrite (view parents states reads writes)
+    sound-with =
+        same (soundWith parents states numbers) (sound readWrite (view parents states reads writes))
+        (λ h.
+        let fits = and-left (all 64 (bytesFit parents states)) _ h in
+        let more = and-right (all 64 (bytesFit parents states)) _ h in
+        let permits = and-left (all 64 (permitted parents states)) _ more in
+        let most = and-right (all 64 (permitted parents states)) _ more in
+        let ends = and-left (all 64 (reachesTop 63 (upOf parents))) _ most in
+        let last = and-right (all 64 (reachesTop 63 (upOf parents))) _ most in
+        sym (standing-decides layout table (member numbers) tells-standing fits permits ends) ∙ last)
+        (λ ok. rw (
+          sound-fits layout table ok,
+          sound-permits layout table ok,
+          sound-ends layout table ok,
+          sound-standing layout table (member numbers) tells-standing ok,
+          sound-groups layout table (member numbers) tells-standing ok,
+        ))
 
 -- ---- numbers that have gone
 
@@ -123,4 +145,12 @@ family-left parents states reads writes parents' states' reads' writes' a gone f
     sets : (m : ℕ) → Changed (λ j s. difference s gone) (setsOf m reads writes) (setsOf m reads' writes')
     sets zero = readsLeft
     sets (suc zero) = writesLeft
-    sets (suc (suc m)) = record { long = refl; each = λ k. sym (difference-empty gone) }
+    sets (suc (suc m)) = record { long = refl; each = λ k l. absurd (omega arith) }
+
+-- A family that was aborted, as one word: it drains where it has a number in common with those that stand in a set.
+pub family-aborted : {parents states reads writes : List ℕ} → SoundArrays parents states reads writes → (a gone standing : ℕ) (parents' states' : List ℕ) → a < 64 →
+    gone < 2 ^ 64 → ((k : ℕ) → member gone k ≡ descends parents a k) → Standing reads writes standing → Changed (kept gone) parents parents' →
+    Changed (given gone (if meet standing gone then 3 + a else 0)) states states' → Aborted a parents states reads writes parents' states'
+family-aborted {parents} {states} {reads} {writes} pre a gone standing parents' states' la fits family tells parentsKept statesGiven =
+    in-place.family-aborted pre a (member gone) (meet standing gone) parents' states' la family (arrays-bounded parents states reads writes (reads-long (pre .long)) (writes-long (pre .long)))
+    (word-stands readWrite (arrays parents states reads writes) standing gone (tells-standing parents states reads writes standing tells) fits) parentsKept statesGiven

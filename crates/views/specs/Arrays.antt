@@ -37,12 +37,17 @@ abbrev pub Freed : ℕ → List ℕ → List ℕ → List ℕ → List ℕ → L
 Freed a parents states reads writes parents' states' reads' writes' =
     tables.Freed layout a (arrays parents states reads writes) (arrays parents' states' reads' writes')
 
+-- A family has been aborted: it drains or has left the arrays. No set changes.
+abbrev pub Aborted : ℕ → List ℕ → List ℕ → List ℕ → List ℕ → List ℕ → List ℕ → Type 0
+Aborted a parents states reads writes parents' states' =
+    tables.Aborted layout a (arrays parents states reads writes) (arrays parents' states' reads writes)
+
 -- ---- an action ends, by its frame's code: 5 for a commit, 6 for an abort
 
--- It frees a family where it is accepted: an abort, or the commit of a top, whose parent's byte is 0.
+-- Where it is accepted a family leaves the tree with it: an abort's, or that of a top that commits, whose parent's byte is 0.
 abbrev pub freesBy : ℕ → ℕ → Bool
 freesBy code up = tables.freesBy (eqb code 6) up
 
--- What it frees: the family of x where it frees one, and nobody where it frees none.
+-- What leaves the tree: the family of x where one does, and else nobody.
 abbrev pub FreedIn : List ℕ → List ℕ → ℕ → ℕ → ℕ → Type 0
 FreedIn parents states code x gone = tables.FreedIn 64 parents states (eqb code 6) x gone

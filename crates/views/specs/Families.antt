@@ -26,6 +26,10 @@ GrownTo = tables.GrownTo 64
 abbrev pub Grown : List ℕ → ℕ → ℕ → Type 0
 Grown = tables.Grown 64
 
+-- number k's byte when the numbers of a set have got another
+abbrev pub given : ℕ → ℕ → ℕ → ℕ → ℕ
+given numbers = changes.given (member numbers)
+
 -- what is left of number k's byte when the numbers of a set have gone
 abbrev pub kept : ℕ → ℕ → ℕ → ℕ
 kept gone = changes.kept (member gone)

@@ -17,6 +17,10 @@ heldBy = tables.heldBy 64
 abbrev pub allHeld : List ℕ → List ℕ → (ℕ → Bool) → ℕ → Bool
 allHeld = tables.allHeld 64
 
+-- h owns a set: going up from one of its numbers, not past one that runs, one is met that holds for h
+abbrev pub ownsSet : List ℕ → List ℕ → ℕ → ℕ → Bool
+ownsSet = tables.ownsSet 64
+
 -- going up from k by parents that are known, a is met, k among them, within 64 steps
 abbrev pub descendsKnown : List ℕ → ℕ → ℕ → Bool
 descendsKnown = tables.descendsKnown 64

@@ -59,13 +59,13 @@ pub struct Mix {
     pub beyond_a_byte: bool,
 }
 
-/// The kinds are those of trace lines: open top, open sub, read, write, commit, abort.
+/// The kinds are those of trace lines: open top, open sub, read, write, commit, abort, quiet.
 pub const MIXES: [Mix; 5] = [
-    Mix { numbers: 8, instruments: 3, kinds: &[1, 2, 2, 2, 3, 3, 3, 4, 4, 4, 5, 5, 6], beyond_a_byte: true },
+    Mix { numbers: 8, instruments: 3, kinds: &[1, 2, 2, 2, 3, 3, 3, 4, 4, 4, 5, 5, 6, 7, 7], beyond_a_byte: true },
     Mix { numbers: 64, instruments: 6, kinds: &[1, 2, 2, 2, 2, 3, 3, 3, 3, 4, 4, 4, 5, 5], beyond_a_byte: true },
-    Mix { numbers: 64, instruments: 128, kinds: &[1, 2, 2, 2, 2, 2, 3, 3, 4, 4, 4, 4, 4, 4, 5, 6], beyond_a_byte: true },
-    Mix { numbers: 20, instruments: 8, kinds: &[1, 2, 3, 4, 5, 6], beyond_a_byte: true },
-    Mix { numbers: 64, instruments: 10, kinds: &[2, 2, 2, 2, 2, 2, 2, 1, 3, 3, 4, 4, 5, 6], beyond_a_byte: true },
+    Mix { numbers: 64, instruments: 128, kinds: &[1, 2, 2, 2, 2, 2, 3, 3, 4, 4, 4, 4, 4, 4, 5, 6, 7, 7, 7], beyond_a_byte: true },
+    Mix { numbers: 20, instruments: 8, kinds: &[1, 2, 3, 4, 5, 6, 7, 7], beyond_a_byte: true },
+    Mix { numbers: 64, instruments: 10, kinds: &[2, 2, 2, 2, 2, 2, 2, 1, 3, 3, 4, 4, 5, 6, 7, 7, 7], beyond_a_byte: true },
 ];
 
 const NO_NUMBERS: [u32; 10] = [64, 65, 66, 127, 128, 129, 192, 200, 254, 255];
@@ -105,11 +105,19 @@ pub fn request(draw: &mut Draw, mix: &Mix, plain: &Plain) -> Request {
         3 => Request::Read(some_number(draw, mix, &leaves), some_instrument(draw, mix)),
         4 => Request::Write(some_number(draw, mix, &leaves), some_instrument(draw, mix)),
         5 => Request::Commit(some_number(draw, mix, &leaves)),
-        _ => Request::Abort(some_number(draw, mix, &running)),
+        6 => Request::Abort(some_number(draw, mix, &running)),
+        _ => {
+            let places = plain.draining_places();
+            if places.is_empty() || draw.one_in(4) {
+                return Request::Quiet(some_number(draw, mix, &plain.draining_numbers()), some_instrument(draw, mix));
+            }
+            let (a, i) = draw.of(&places);
+            Request::Quiet(a, i)
+        }
     }
 }
 
-/// A sound record: a forest of up to 64 scattered numbers, with sets of any numbers in use, such as no requests might lead to.
+/// A sound record: a forest of up to 64 scattered numbers, and groups of others that drain, with sets of any numbers in use, such as no requests might lead to.
 pub fn forest(draw: &mut Draw) -> Record {
     let mut record = Record::empty();
     let mut numbers: Vec<usize> = (0..64).collect();
@@ -133,17 +141,36 @@ pub fn forest(draw: &mut Draw) -> Record {
             }
         }
     }
-    let used = &numbers[..many];
+    let draining = if draw.one_in(2) { draw.below(65 - many) } else { 0 };
+    let used = &numbers[..many + draining];
+    for k in many..used.len() {
+        // the first of a group drains under itself, the others under the first
+        let first = if k == many || draw.one_in(4) { used[k] } else { usize::from(record.states[used[k - 1]]) - 3 };
+        record.states[used[k]] = 3 + first as u8;
+    }
     for _ in 0..draw.below(60) {
         if used.is_empty() {
             break;
         }
-        let (n, i) = (draw.of(used), draw.below(8) * 18 + draw.below(2));
-        if draw.one_in(2) {
-            record.reads[i] |= 1 << n;
-        } else {
-            record.writes[i] |= 1 << n;
+        let n = draw.of(used);
+        stand_somewhere(draw, &mut record, n);
+    }
+    for &head in &used[many..] {
+        let group = record.group(head);
+        if group != 0 && group & record.standing() == 0 {
+            let members: Vec<usize> = (0..64).filter(|n| group >> n & 1 == 1).collect();
+            let n = draw.of(&members);
+            stand_somewhere(draw, &mut record, n);
         }
     }
     record
+}
+
+fn stand_somewhere(draw: &mut Draw, record: &mut Record, n: usize) {
+    let i = draw.below(8) * 18 + draw.below(2);
+    if draw.one_in(2) {
+        record.reads[i] |= 1 << n;
+    } else {
+        record.writes[i] |= 1 << n;
+    }
 }

@@ -18,13 +18,21 @@ fn random_bytes(draw: &mut Draw) -> Record {
 /// A few numbers with bytes that mean something, sound or not.
 fn few_numbers(draw: &mut Draw) -> Record {
     let mut record = Record::empty();
+    let mut in_use = 0;
     for n in 0..4 {
-        record.states[n] = draw.of(&[0, 1, 1, 2]);
-        record.parents[n] = draw.of(&[0, 0, 0, 1, 2, 3, 4]);
+        let head = if draw.one_in(4) { draw.below(4) } else { n };
+        record.states[n] = draw.of(&[0, 1, 1, 2, 3 + head as u8]);
+        record.parents[n] = draw.of(&[0, 0, 0, 0, 1, 2, 3, 4]);
+        if (record.states[n] == 0 || record.head(n).is_some()) && !draw.one_in(8) {
+            record.parents[n] = 0;
+        }
+        in_use |= u64::from(record.states[n] != 0) << n;
     }
-    if draw.one_in(3) {
-        record.reads[0] = draw.word() & 15;
-        record.writes[127] = draw.word() & 15;
+    let drains = (0..4).any(|n| record.head(n).is_some());
+    if draw.one_in(if drains { 1 } else { 3 }) {
+        let named = if draw.one_in(6) { 15 } else { in_use };
+        record.reads[0] = draw.word() & named;
+        record.writes[127] = draw.word() & named;
     }
     record
 }
@@ -35,7 +43,7 @@ fn changed_forest(draw: &mut Draw) -> Record {
     let (n, i) = (draw.below(64), draw.below(128));
     match draw.below(5) {
         0 => record.parents[n] = draw.below(68) as u8,
-        1 => record.states[n] = draw.below(4) as u8,
+        1 => record.states[n] = if draw.one_in(2) { draw.below(4) } else { draw.below(70) } as u8,
         2 => record.reads[i] |= 1 << n,
         3 => record.writes[i] ^= 1 << n,
         _ => {}
@@ -78,15 +86,18 @@ fn assert_as_the_model(draw: &mut Draw, record: &Record, at: &dyn Fn() -> String
 
 #[test]
 fn images_of_anything() {
-    let mut sound = [0; 3];
+    let (mut sound, mut draining) = ([0; 3], [0; 3]);
     for seed in draw::seeds(50_000..80_000) {
         let mut draw = Draw::new(seed);
         let kind = (seed % 3) as usize;
         let record = [random_bytes, few_numbers, changed_forest][kind](&mut draw);
-        sound[kind] += u32::from(assert_as_the_model(&mut draw, &record, &|| format!("seed {seed}")));
+        let taken = assert_as_the_model(&mut draw, &record, &|| format!("seed {seed}"));
+        sound[kind] += u32::from(taken);
+        draining[kind] += u32::from(taken && (0..64).any(|n| record.head(n).is_some()));
     }
     let often = 500 / draw::one_seed_of()..9_500 / draw::one_seed_of();
     assert!(sound[0] == 0 && often.contains(&sound[1]) && often.contains(&sound[2]), "{sound:?}");
+    assert!(often.contains(&draining[1]) && often.contains(&draining[2]), "{draining:?}");
 }
 
 /// Chains of every length in every order of numbers, and the ring that the longest one closes.
@@ -146,13 +157,14 @@ fn other_lengths_get_7_and_stay() {
                     image::write(&mut a, &mut o, 1, 1),
                     image::commit(&mut a, &mut o, 1),
                     image::abort(&mut a, &mut o, u32::MAX),
+                    image::quiet(&mut a, &mut o, 1, 128),
                     image::load(&mut a, &mut o, b""),
                     image::load(&mut a, &mut o, b"110101ff\n"),
                     image::play(&mut a, &mut o, &mut progress, b"0101\n", &mut out),
                     image::finish(&mut a, &mut o, &mut progress, &mut out),
                 ];
                 let at = format!("{many_actions} and {many_owners}");
-                assert_eq!(answers, [7; 12], "{at}");
+                assert_eq!(answers, [7; 13], "{at}");
                 assert_eq!(image::save(&a, &o, &mut out), (7, 0), "{at}");
                 assert_eq!(image::text_size(&a, &o), (7, 0), "{at}");
                 assert!(a == actions && o == owners && out == [0xaa; 6000] && progress == [1, 2, 3, 4], "changed, {at}");

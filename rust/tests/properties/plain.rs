@@ -1,5 +1,6 @@
-//! The plain machine of Moss's rules. Each action carries the list of its ancestors from the moment it is opened, and each instrument has its running owners
-//! only: a subaction's commit puts the parent in its place, an abort takes out the action and its descendants, a top's commit takes out the top.
+//! The plain machine of Moss's rules. Each action carries the list of its ancestors from the moment it is opened, and each instrument has its owners only,
+//! running and draining: a subaction's commit puts the parent in its place, a top's commit takes out the top, and an abort puts the aborted action, now
+//! draining, in the place of itself and its descendants. It goes, and they with it, when the last of its instruments is quiet.
 
 use std::collections::{BTreeMap, BTreeSet};
 
@@ -15,6 +16,7 @@ pub enum Request {
     Write(u32, u32),
     Commit(u32),
     Abort(u32),
+    Quiet(u32, u32),
 }
 
 impl Request {
@@ -26,6 +28,7 @@ impl Request {
             Request::Write(..) => 4,
             Request::Commit(..) => 5,
             Request::Abort(..) => 6,
+            Request::Quiet(..) => 7,
         }
     }
 
@@ -38,6 +41,7 @@ impl Request {
             Request::Write(a, i) => bench.write(a, i),
             Request::Commit(a) => bench.commit(a),
             Request::Abort(a) => bench.abort(a),
+            Request::Quiet(a, i) => bench.quiet(a, i),
         })
         .number()
     }
@@ -45,9 +49,11 @@ impl Request {
 
 #[derive(Clone)]
 pub struct Plain {
-    /// Of each number in use, its ancestors, the parent first.
+    /// Of each running or committed number, its ancestors, the parent first.
     ancestors: BTreeMap<u32, Vec<u32>>,
     running: BTreeSet<u32>,
+    /// Of each draining owner, itself and all that were aborted with it.
+    draining: BTreeMap<u32, BTreeSet<u32>>,
     readers: Vec<BTreeSet<u32>>,
     writers: Vec<BTreeSet<u32>>,
 }
@@ -55,13 +61,17 @@ pub struct Plain {
 impl Plain {
     pub fn empty() -> Plain {
         let none = vec![BTreeSet::new(); 128];
-        Plain { ancestors: BTreeMap::new(), running: BTreeSet::new(), readers: none.clone(), writers: none }
+        Plain { ancestors: BTreeMap::new(), running: BTreeSet::new(), draining: BTreeMap::new(), readers: none.clone(), writers: none }
     }
 
     /// The machine that says the same as a sound record.
     pub fn of(record: &Record) -> Plain {
         let mut plain = Plain::empty();
         for n in (0..64).filter(|&n| record.states[n] != 0) {
+            if let Some(head) = record.head(n) {
+                plain.draining.entry(head as u32).or_default().insert(n as u32);
+                continue;
+            }
             plain.ancestors.insert(n as u32, record.ancestors(n).iter().map(|&k| k as u32).collect());
             if record.states[n] == 1 {
                 plain.running.insert(n as u32);
@@ -75,7 +85,23 @@ impl Plain {
     }
 
     pub fn in_use(&self, n: u32) -> bool {
-        self.ancestors.contains_key(&n)
+        self.ancestors.contains_key(&n) || self.head(n).is_some()
+    }
+
+    /// The draining owner that n was aborted with.
+    pub fn head(&self, n: u32) -> Option<u32> {
+        self.draining.iter().find(|(_, aborted)| aborted.contains(&n)).map(|(&head, _)| head)
+    }
+
+    /// The draining owners, each with every instrument that it has.
+    pub fn draining_places(&self) -> Vec<(u32, u32)> {
+        let owns = |a, i: usize| self.readers[i].contains(a) || self.writers[i].contains(a);
+        self.draining.keys().flat_map(|a| (0..128).filter(move |&i| owns(a, i)).map(move |i| (*a, i as u32))).collect()
+    }
+
+    /// The draining owners and all that were aborted with them.
+    pub fn draining_numbers(&self) -> Vec<u32> {
+        self.draining.values().flatten().copied().collect()
     }
 
     pub fn running_numbers(&self) -> Vec<u32> {
@@ -98,6 +124,23 @@ impl Plain {
             for owners in self.readers.iter_mut().chain(&mut self.writers) {
                 owners.remove(&gone);
             }
+        }
+    }
+
+    /// The aborted action takes the place of itself and its descendants in every set; where they own nothing they are gone.
+    fn drain(&mut self, a: u32) {
+        let aborted = self.family(a);
+        let left = |sets: &[BTreeSet<u32>]| -> Vec<usize> { (0..128).filter(|&i| !sets[i].is_disjoint(&aborted)).collect() };
+        let (reads, writes) = (left(&self.readers), left(&self.writers));
+        self.take_out(a);
+        if !reads.is_empty() || !writes.is_empty() {
+            self.draining.insert(a, aborted);
+        }
+        for i in reads {
+            self.readers[i].insert(a);
+        }
+        for i in writes {
+            self.writers[i].insert(a);
         }
     }
 
@@ -187,21 +230,41 @@ impl Plain {
                 if !self.running.contains(&a) {
                     return 4;
                 }
-                self.take_out(a);
+                self.drain(a);
+            }
+            Request::Quiet(a, i) => {
+                if a > 63 {
+                    return 1;
+                }
+                if i > 127 {
+                    return 2;
+                }
+                let drains = self.draining.contains_key(&a);
+                if !drains || !self.readers[i as usize].contains(&a) && !self.writers[i as usize].contains(&a) {
+                    return 10;
+                }
+                self.readers[i as usize].remove(&a);
+                self.writers[i as usize].remove(&a);
+                if !self.readers.iter().chain(&self.writers).any(|owners| owners.contains(&a)) {
+                    self.draining.remove(&a);
+                }
             }
         }
         0
     }
 
-    /// Fails unless the bench has the same numbers in use, running, with the same parents, and by Moss's rules the same owners of every instrument.
+    /// Fails unless the bench has the same numbers in use, running, draining under the same, with the same parents, and by Moss's rules the same owners of
+    /// every instrument.
     pub fn assert_agrees(&self, bench: &Bench, at: &dyn Fn() -> String) {
         for n in 0..64 {
-            let state = match (self.in_use(n), self.running.contains(&n)) {
-                (false, _) => State::Free,
-                (true, true) => State::Running,
-                (true, false) => State::Committed,
+            let state = match (self.in_use(n), self.running.contains(&n), self.head(n)) {
+                (false, _, _) => State::Free,
+                (true, true, _) => State::Running,
+                (true, false, None) => State::Committed,
+                (true, false, Some(_)) => State::Draining,
             };
             assert_eq!(bench.state(n), Some(state), "state of {n}, {}", at());
+            assert_eq!(bench.head(n), self.head(n), "head of {n}, {}", at());
             let parent = self.ancestors.get(&n).and_then(|above| above.first().copied());
             assert_eq!(bench.parent(n), parent, "parent of {n}, {}", at());
         }

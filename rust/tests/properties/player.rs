@@ -27,6 +27,7 @@ fn request_of(line: &[u8]) -> Option<Request> {
         [4, a, i] => Some(Request::Write(a, i)),
         [5, a] => Some(Request::Commit(a)),
         [6, a] => Some(Request::Abort(a)),
+        [7, a, i] => Some(Request::Quiet(a, i)),
         _ => None,
     }
 }
@@ -39,6 +40,7 @@ fn line_of(request: Request) -> Vec<u8> {
         Request::Write(a, i) => format!("04{a:02x}{i:02x}"),
         Request::Commit(a) => format!("05{a:02x}"),
         Request::Abort(a) => format!("06{a:02x}"),
+        Request::Quiet(a, i) => format!("07{a:02x}{i:02x}"),
     }
     .into_bytes()
 }
@@ -54,8 +56,8 @@ fn spoilt(draw: &mut Draw, mut line: Vec<u8>) -> Vec<u8> {
         4 => line.insert(place, b'0'),
         5 => line.extend(b"00"),
         6 => line.truncate(2 + draw.below(3)),
-        7 => line[..2].copy_from_slice(draw.of(&[b"00", b"07", b"10", b"11", b"ff"])),
-        8 => line[1] = b'1' + draw.below(6) as u8,
+        7 => line[..2].copy_from_slice(draw.of(&[b"00", b"08", b"10", b"11", b"ff"])),
+        8 => line[1] = b'1' + draw.below(7) as u8,
         9 => line = vec![b'0'; draw.below(3000)],
         10 => line = (0..draw.below(40)).map(|_| draw.byte()).filter(|&byte| byte != b'\n').collect(),
         _ => line.extend(line.clone()),
@@ -192,17 +194,19 @@ fn long_lines() {
     assert!(*player.bench() == Bench::new());
 }
 
-/// Frames that a bench with 1 running would all accept.
-const FRAMES: [&[u8]; 6] = [b"0107", b"020701", b"030105", b"040105", b"0501", b"0601"];
+/// Frames that a bench with 1 running and 2 draining at instrument 6 would all accept.
+const FRAMES: [&[u8]; 7] = [b"0107", b"020701", b"030105", b"040105", b"0501", b"0601", b"070206"];
 
-/// A bench with 1 running, and its machine.
+/// A bench with 1 running and 2 draining at instrument 6, and its machine.
 fn with_1_running() -> (Bench, Plain) {
     let (mut bench, mut plain) = (Bench::new(), Plain::empty());
-    assert_eq!((bench.open_top(1), plain.step(Request::OpenTop(1))), (Ok(()), 0));
+    for request in [Request::OpenTop(1), Request::OpenTop(2), Request::Write(2, 6), Request::Abort(2)] {
+        assert_eq!((request.asked_of(&mut bench), plain.step(request)), (0, 0));
+    }
     (bench, plain)
 }
 
-/// Plays one line on a bench with 1 running, with its newline or without, and checks answer and bench.
+/// Plays one line on such a bench, with its newline or without, and checks answer and bench.
 fn assert_answered(line: &[u8], ended: bool) -> u8 {
     let (bench, mut plain) = with_1_running();
     let expected = request_of(line).map_or(8, |request| plain.step(request));

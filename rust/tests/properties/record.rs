@@ -4,11 +4,14 @@ use std::collections::BTreeSet;
 
 use dikothelm::Bench;
 
+/// A state that no number of a sound record has: that of one that drains under nobody.
+const MEANINGLESS: u8 = 67;
+
 #[derive(Clone, PartialEq)]
 pub struct Record {
     /// 0 for none, else the parent's number + 1.
     pub parents: [u8; 64],
-    /// 0 free, 1 running, 2 committed.
+    /// 0 free, 1 running, 2 committed, 3 + h draining under h.
     pub states: [u8; 64],
     pub reads: [u64; 128],
     pub writes: [u64; 128],
@@ -41,20 +44,37 @@ impl Record {
         self.states[n] == 0
     }
 
-    /// Rules 1 to 4, and bytes that mean something.
+    /// The action that n drains under.
+    pub fn head(&self, n: usize) -> Option<usize> {
+        usize::from(self.states[n]).checked_sub(3).filter(|&head| head < 64)
+    }
+
+    /// All numbers that stand in some set.
+    pub fn standing(&self) -> u64 {
+        self.reads.iter().chain(&self.writes).fold(0, |all, set| all | set)
+    }
+
+    /// All numbers that drain under one.
+    pub fn group(&self, head: usize) -> u64 {
+        (0..64).filter(|&n| self.head(n) == Some(head)).fold(0, |all, n| all | 1 << n)
+    }
+
+    /// Rules 1 to 4, bytes that mean something, and groups that drain under a head that drains under itself and of which one stands in a set.
     pub fn sound(&self) -> bool {
-        if self.states.iter().any(|&state| state > 2) || self.parents.iter().any(|&parent| parent > 64) {
+        if self.states.iter().any(|&state| state > 66) || self.parents.iter().any(|&parent| parent > 64) {
             return false;
         }
-        let standing = self.reads.iter().chain(&self.writes).fold(0, |all, set| all | set);
+        let standing = self.standing();
         (0..64).all(|n| {
-            let top_runs = self.free(n) || self.parents[n] != 0 || self.states[n] == 1;
+            let top_runs = self.free(n) || self.parents[n] != 0 || self.states[n] != 2;
             let free_is_bare = !self.free(n) || self.parents[n] == 0 && standing >> n & 1 == 0;
             let parent_fits = self.parents[n] == 0 || {
                 let parent = usize::from(self.parents[n]) - 1;
-                !self.free(parent) && (self.states[n] != 1 || self.states[parent] == 1)
+                !self.free(parent) && self.head(parent).is_none() && (self.states[n] != 1 || self.states[parent] == 1)
             };
-            top_runs && free_is_bare && parent_fits && self.reaches_a_top(n)
+            let drains_well =
+                self.head(n).map_or(true, |head| self.parents[n] == 0 && self.head(head) == Some(head) && self.group(head) & standing != 0);
+            top_runs && free_is_bare && parent_fits && drains_well && self.reaches_a_top(n)
         })
     }
 
@@ -85,6 +105,9 @@ impl Record {
         (0..64)
             .filter(|n| set >> n & 1 == 1)
             .map(|n| {
+                if let Some(head) = self.head(n) {
+                    return head as u32;
+                }
                 let mut line = vec![n];
                 line.extend(self.ancestors(n));
                 line.into_iter().find(|&k| self.states[k] == 1).expect("an heir") as u32
@@ -96,8 +119,12 @@ impl Record {
     pub fn text(&self) -> Vec<u8> {
         let mut text = String::new();
         for n in (0..64).filter(|&n| !self.free(n)) {
-            let parent = if self.parents[n] == 0 { 0xff } else { self.parents[n] - 1 };
-            text += &format!("11{n:02x}{:02x}{parent:02x}\n", self.states[n]);
+            let (state, above) = match self.head(n) {
+                Some(head) => (3, head as u8),
+                None if self.parents[n] == 0 => (self.states[n], 0xff),
+                None => (self.states[n], self.parents[n] - 1),
+            };
+            text += &format!("11{n:02x}{state:02x}{above:02x}\n");
         }
         for i in (0..128).filter(|&i| self.reads[i] != 0 || self.writes[i] != 0) {
             text += &format!("12{i:02x}{:016x}{:016x}\n", self.reads[i], self.writes[i]);
@@ -132,16 +159,17 @@ impl Record {
             let second = number(2, 2)? as usize;
             match (&line[..2], line.len()) {
                 ("11", 8) => {
-                    let (state, parent) = (number(4, 2)? as u8, number(6, 2)? as u8);
-                    if last_instrument.is_some() || last_number >= Some(second) || second > 63 || !(1..=2).contains(&state) {
+                    let (state, above) = (number(4, 2)? as u8, number(6, 2)? as u8);
+                    if last_instrument.is_some() || last_number >= Some(second) || second > 63 || !(1..=3).contains(&state) {
                         return None;
                     }
-                    record.parents[second] = match parent {
-                        0..=63 => parent + 1,
-                        0xff => 0,
+                    (record.parents[second], record.states[second]) = match (state, above) {
+                        (3, 0..=63) => (0, 3 + above),
+                        (3, 0xff) => (0, MEANINGLESS),
+                        (_, 0..=63) => (above + 1, state),
+                        (_, 0xff) => (0, state),
                         _ => return None,
                     };
-                    record.states[second] = state;
                     last_number = Some(second);
                 }
                 ("12", 36) => {

@@ -1,4 +1,4 @@
-//! The six requests against the plain machine.
+//! The seven requests against the plain machine.
 
 use dikothelm::Bench;
 
@@ -6,18 +6,17 @@ use crate::draw::{self, Draw, Mix, MIXES};
 use crate::plain::{Plain, Request};
 use crate::record::Record;
 
+/// The numbers leave the tree with a state, 0 or that of draining.
+fn left_the_tree(record: &mut Record, numbers: u64, state: u8) {
+    for n in (0..64).filter(|n| numbers >> n & 1 == 1) {
+        record.parents[n] = 0;
+        record.states[n] = state;
+    }
+}
+
 /// What a request makes of the arrays once it is accepted.
 fn changed(before: &Record, family: u64, request: Request) -> Record {
     let mut record = before.clone();
-    let freed = |record: &mut Record| {
-        for n in (0..64).filter(|n| family >> n & 1 == 1) {
-            record.parents[n] = 0;
-            record.states[n] = 0;
-        }
-        for set in record.reads.iter_mut().chain(&mut record.writes) {
-            *set &= !family;
-        }
-    };
     match request {
         Request::OpenTop(n) => record.states[n as usize] = 1,
         Request::OpenSub(n, p) => {
@@ -27,13 +26,30 @@ fn changed(before: &Record, family: u64, request: Request) -> Record {
         Request::Read(a, i) => record.reads[i as usize] |= 1 << a,
         Request::Write(a, i) => record.writes[i as usize] |= 1 << a,
         Request::Commit(a) if record.parents[a as usize] != 0 => record.states[a as usize] = 2,
-        Request::Commit(_) | Request::Abort(_) => freed(&mut record),
+        Request::Commit(_) => {
+            left_the_tree(&mut record, family, 0);
+            for set in record.reads.iter_mut().chain(&mut record.writes) {
+                *set &= !family;
+            }
+        }
+        Request::Abort(a) => {
+            let drains = record.standing() & family != 0;
+            left_the_tree(&mut record, family, if drains { 3 + a as u8 } else { 0 });
+        }
+        Request::Quiet(a, i) => {
+            let group = record.group(a as usize);
+            record.reads[i as usize] &= !group;
+            record.writes[i as usize] &= !group;
+            if record.standing() & group == 0 {
+                left_the_tree(&mut record, group, 0);
+            }
+        }
     }
     record
 }
 
 /// How often each kind of request got each answer.
-type Tally = [[u32; 10]; 7];
+type Tally = [[u32; 11]; 8];
 
 fn walk(seed: u64, mut bench: Bench, mut plain: Plain, mix: &Mix, requests: usize, tally: &mut Tally) {
     let mut draw = Draw::new(seed);
@@ -61,8 +77,15 @@ fn walk(seed: u64, mut bench: Bench, mut plain: Plain, mix: &Mix, requests: usiz
 
 /// Every answer that a kind of request can get on a sound bench was got often enough.
 fn assert_covered(tally: &Tally) {
-    let possible: [(usize, &[usize]); 6] =
-        [(1, &[0, 1, 3]), (2, &[0, 1, 3, 4]), (3, &[0, 1, 2, 4, 5, 6]), (4, &[0, 1, 2, 4, 5, 6]), (5, &[0, 1, 4, 5]), (6, &[0, 1, 4])];
+    let possible: [(usize, &[usize]); 7] = [
+        (1, &[0, 1, 3]),
+        (2, &[0, 1, 3, 4]),
+        (3, &[0, 1, 2, 4, 5, 6]),
+        (4, &[0, 1, 2, 4, 5, 6]),
+        (5, &[0, 1, 4, 5]),
+        (6, &[0, 1, 4]),
+        (7, &[0, 1, 2, 10]),
+    ];
     for (kind, answers) in possible {
         for (answer, &got) in tally[kind].iter().enumerate() {
             assert_eq!(got > 50 / draw::one_seed_of(), answers.contains(&answer), "kind {kind} got answer {answer} {got} times");
@@ -72,7 +95,7 @@ fn assert_covered(tally: &Tally) {
 
 #[test]
 fn from_an_empty_bench() {
-    let mut tally = [[0; 10]; 7];
+    let mut tally = [[0; 11]; 8];
     for seed in draw::seeds(0..250) {
         walk(seed, Bench::new(), Plain::empty(), &MIXES[seed as usize % MIXES.len()], 1000, &mut tally);
     }
@@ -81,7 +104,7 @@ fn from_an_empty_bench() {
 
 #[test]
 fn from_any_sound_record() {
-    let mut tally = [[0; 10]; 7];
+    let mut tally = [[0; 11]; 8];
     for seed in draw::seeds(10_000..14_000) {
         let record = draw::forest(&mut Draw::new(seed));
         assert!(record.sound());

@@ -21,14 +21,17 @@ fn some_bench(draw: &mut Draw) -> Record {
     Record::of(&bench)
 }
 
-/// Number 63 on top of all others, and every instrument read and written.
+/// Number 63 on top of those that don't drain, the others in two groups, and every instrument read and written.
 fn full() -> Record {
     let mut record = Record::empty();
     for n in 0..64 {
-        record.states[n] = if n % 7 == 0 { 2 } else { 1 };
-        record.parents[n] = if n == 63 { 0 } else { 64 };
+        (record.parents[n], record.states[n]) = match n % 7 {
+            0 => (64, 2),
+            5 | 6 => (0, 3 + 49 + (n % 7) as u8), // under 54 and under 55
+            _ => (64, 1),
+        };
     }
-    record.states[63] = 1;
+    (record.parents[63], record.states[63]) = (0, 1);
     for i in 0..128 {
         record.reads[i] = 1 << (i % 64);
         record.writes[i] = u64::MAX >> (i % 64);
@@ -171,7 +174,14 @@ fn damaged(draw: &mut Draw, text: &[u8]) -> Vec<u8> {
                 text = lines.concat();
             }
             _ => {
-                let (n, state, parent) = (draw.below(70), draw.below(4), if draw.one_in(2) { 0xff } else { draw.below(70) });
+                let (n, state) = (draw.below(70), draw.below(5));
+                let parent = if state == 3 && draw.one_in(2) {
+                    n
+                } else if draw.one_in(2) {
+                    0xff
+                } else {
+                    draw.below(70)
+                };
                 let line = if draw.one_in(2) {
                     format!("11{n:02x}{state:02x}{parent:02x}\n")
                 } else {

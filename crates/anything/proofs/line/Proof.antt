@@ -1,4 +1,4 @@
--- Eight counts are written.
+-- Nine counts are written.
 use borrow.Author.Needs.{needs}
 use Prim.Native.Nat.{_-_}
 use Rattle.anything.proofs.line.Statement.{statement}
@@ -8,7 +8,7 @@ abbrev Inv-loop : tie.InvT-loop
 Inv-loop kind sum counts k₀ k = Unit
 
 abbrev μ-loop : tie.MeasureT-loop
-μ-loop kind sum counts k₀ k = 8 - k
+μ-loop kind sum counts k₀ k = 9 - k
 
 print-decimal-requires : tie.Need-print-decimal-requires Inv-loop μ-loop
 print-decimal-requires c κs = search needs

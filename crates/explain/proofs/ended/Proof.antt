@@ -15,11 +15,11 @@ finish-explaining-requires : tie.Need-finish-explaining-requires
 finish-explaining-requires c κs = search needs
 
 array-share-prefix-out : tie.Need-array-share-prefix-out
-array-share-prefix-out c = finished-within reasonLine 14 (omega arith) (c .before .finish-explaining .ensures)
+array-share-prefix-out c = finished-within reasonLine 23 (omega arith) (c .before .finish-explaining .ensures)
 
 slice-aggregate-write-whole : tie.Need-slice-aggregate-write-whole
 slice-aggregate-write-whole c =
-    sym (length-take-le _ _ (finished-within reasonLine 14 (omega arith) (c .before .before .finish-explaining .ensures)))
+    sym (length-take-le _ _ (finished-within reasonLine 23 (omega arith) (c .before .before .finish-explaining .ensures)))
 
 write-whole-requires : tie.Need-write-whole-requires
 write-whole-requires c κs = search needs

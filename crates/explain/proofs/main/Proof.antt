@@ -6,7 +6,7 @@ use Rattle.explain.proofs.main.Statement.{statement}
 use Rattle.explain.proofs.main.Tie as tie
 
 abbrev Inv-loop : tie.InvT-loop
-Inv-loop player₀ turns₀ goes-on₀ input₀ out₀ player turns goes-on input out = (length input ≡ 8192) × (length out ≡ 114688)
+Inv-loop player₀ turns₀ goes-on₀ input₀ out₀ player turns goes-on input out = (length input ≡ 8192) × (length out ≡ 188416)
 
 abbrev μ-loop : tie.MeasureT-loop
 μ-loop player₀ turns₀ goes-on₀ input₀ out₀ player turns goes-on input out = turns

@@ -1,9 +1,8 @@
--- `take_action` meets its contract: the frame's state and parent decide as the definition does. Assumes nothing.
+-- `take_action` meets its contract: the frame's ss and pp decide as the definition does. Assumes nothing.
 use mathlib.Core.Path.{_≡_, sym, _∙_}
-use mathlib.Core.Bool.{Bool, _&&_, _||_, and-assoc}
+use mathlib.Core.Bool.{Bool, _&&_, and-assoc}
 use Prim.Native.Nat.{ℕ}
 use native.Mathlib.Omega.{arith}
-use lib.Dec.{eqb, ltb}
 use borrow.Author.Needs.{needs}
 use Rattle.forms.specs.Kinds.{stateFits, parentFits, action}
 use Rattle.forms.specs.WellShaped.{standsAt}
@@ -11,10 +10,9 @@ use Rattle.loading.proofs.ReadFrames.{Said, fields-tested, fields-said}
 use Rattle.loading.proofs.take_action.Statement.{statement}
 use Rattle.loading.proofs.take_action.Tie as tie
 
--- the test of a frame with this state and parent, as the code groups it
-test : (stands : Bool) (state parent : ℕ)
-    → (stands && (eqb state 1 || eqb state 2) && (ltb parent 64 || eqb parent 0xff)) ≡ (stands && action .fits state parent)
-test stands state parent = and-assoc stands (stateFits state) (parentFits parent)
+-- the test of a frame with this ss and pp, as the code groups it
+test : (stands : Bool) (ss pp : ℕ) → (stands && stateFits ss && parentFits pp) ≡ (stands && action .fits ss pp)
+test stands ss pp = and-assoc stands (stateFits ss) (parentFits pp)
 
 decided : (c : tie.After-struct-known) → let f = c .before in let a = f .before .before .args in let r = f .fields-at .result in
     standsAt action (a .text .now) (a .at) (a .k) ≡ (r .stands && stateFits (r .first) && parentFits (r .second))
@@ -39,19 +37,21 @@ parent-byte-requires c κs = let h = said c in omega arith
 element-write-parents : tie.Need-element-write-parents
 element-write-parents c = search needs
 
-cast-states : tie.Need-cast-states
-cast-states c = let h = said (c .before) in omega arith
+state-byte-requires : tie.Need-state-byte-requires
+state-byte-requires c κs = let h = said (c .before) in omega arith
 
 element-write-states : tie.Need-element-write-states
 element-write-states c = search needs
 
 add-result : tie.Need-add-result
-add-result c = let h = said (c .before) in omega arith
+add-result c = let h = said (c .before .before) in omega arith
 
 returns : tie.Need-returns
 returns c =
-    let h = said (c .before) in
-    rw (decided (c .before .before), c .before .if1 .taken, c .parent-byte .ensures, h .first, h .second)
+    let parent = c .before in
+    let taken = parent .before in
+    let h = said taken in
+    rw (decided (taken .before), taken .if1 .taken, parent .parent-byte .ensures, c .state-byte .ensures, h .first, h .second)
 
 returns-2 : tie.Need-returns-2
 returns-2 c = rw (decided (c .before), c .if1 .left)
@@ -63,7 +63,7 @@ take-action-spec =
     fields-at-requires
     parent-byte-requires
     element-write-parents
-    cast-states
+    state-byte-requires
     element-write-states
     add-result
     returns

@@ -3,10 +3,10 @@ use mathlib.Core.Path.{_≡_, _∙_, ap}
 use Prim.Native.Nat.{_+_, _%_}
 use native.Mathlib.Omega.{arith}
 use borrow.Author.Needs.{needs}
-use borrow.Author.Tests.{eq-eqb, ne-eqb, lt-ltb, le-ltb}
+use borrow.Author.Tests.{eq-eqb, ne-eqb}
 use Rattle.naming.specs.Told.{namedFor}
 use Rattle.naming.specs.Blocking.{namedIn}
-use Rattle.naming.proofs.HeirSets.{child-number}
+use Rattle.naming.proofs.Blockers.{child-number}
 use Rattle.naming.proofs.named.Statement.{statement}
 use Rattle.naming.proofs.named.Tie as tie
 
@@ -25,7 +25,7 @@ unfolding namedIn
 returns-2 c =
     let refused = c .before .before in
     let n = refused .before .args .answer in
-    rw (ne-eqb n 0 (refused .if1 .left), lt-ltb 6 n (c .before .if2 .taken)) (c .nobody2 .ensures)
+    rw (ne-eqb n 0 (refused .if1 .left), c .before .if2 .taken) (c .nobody2 .ensures)
 
 cast-blocked : tie.Need-cast-blocked
 cast-blocked c = search needs
@@ -41,7 +41,7 @@ returns-3 c =
     let a = refused .before .args in
     let n = a .answer in
     let same : a .x % 64 % 64 ≡ a .x % 64 = omega arith in
-    rw (ne-eqb n 0 (refused .if1 .left), le-ltb 6 n (low .if2 .left), eq-eqb n 6 (c .before .if3 .taken)) (rw same at (c .blocked .ensures))
+    rw (ne-eqb n 0 (refused .if1 .left), low .if2 .left, eq-eqb n 6 (c .before .if3 .taken)) (rw same at (c .blocked .ensures))
 
 cast-first-child : tie.Need-cast-first-child
 cast-first-child c = search needs
@@ -67,7 +67,7 @@ returns-4 c =
     let refused = low .before in
     let a = refused .before .args in
     let n = a .answer in
-    rw (ne-eqb n 0 (refused .if1 .left), le-ltb 6 n (low .if2 .left), ne-eqb n 6 (other .if3 .left), eq-eqb n 5 (found .before .if4 .taken))
+    rw (ne-eqb n 0 (refused .if1 .left), low .if2 .left, ne-eqb n 6 (other .if3 .left), eq-eqb n 5 (found .before .if4 .taken))
     (c .naming .ensures ∙ ap (namedFor n) (child-number (a .parents .now) (a .states .now) (a .x % 64 + 1) (found .first-child .result) (found .first-child .ensures)))
 
 offending-requires : tie.Need-offending-requires
@@ -84,7 +84,7 @@ returns-5 c =
     let low = other .before in
     let refused = low .before in
     let n = refused .before .args .answer in
-    rw (ne-eqb n 0 (refused .if1 .left), le-ltb 6 n (low .if2 .left), ne-eqb n 6 (other .if3 .left), ne-eqb n 5 (last .if4 .left))
+    rw (ne-eqb n 0 (refused .if1 .left), low .if2 .left, ne-eqb n 6 (other .if3 .left), ne-eqb n 5 (last .if4 .left))
     (c .naming2 .ensures ∙ ap (namedFor n) (c .before .offending .ensures))
 
 pub named-spec : {M : Type 1} → statement M

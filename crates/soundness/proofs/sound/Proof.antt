@@ -2,7 +2,7 @@
 use borrow.Author.Needs.{needs}
 use borrow.Author.Tests.{not-true, not-false}
 use mathlib.Core.Path.{sym, _∙_}
-use Rattle.tables.proofs.SoundParts.{fits-known}
+use Rattle.tables.proofs.SoundParts.{fits-known, fits-means}
 use Rattle.soundness.proofs.sound.Statement.{statement}
 use Rattle.soundness.proofs.sound.Tie as tie
 
@@ -51,7 +51,7 @@ none-free-requires c κs = search needs
 
 returns-4 : tie.Need-returns-4
 returns-4 c =
-    let ends = c .before in
+    let ends = c .before .before in
     let permits = ends .before .before in
     let fits = permits .before .before in
     rw (
@@ -61,8 +61,33 @@ returns-4 c =
       not-false (permits .before .parents-stand .result) (permits .if2 .left),
       ← ends .before .chains-end .ensures,
       not-false (ends .before .chains-end .result) (ends .if3 .left),
+      ← c .before .none-free .ensures,
+      not-true (c .before .none-free .result) (c .if4 .taken),
     )
-    (c .none-free .ensures)
+
+drains-well-requires : tie.Need-drains-well-requires
+drains-well-requires c κs =
+    let fits = c .before .before .before .before .before .before in
+    let start = fits .before .before in
+    fits-means 64 (start .args .parents .now) (start .args .states .now) (sym (fits .before .bytes-fit .ensures) ∙ not-false (fits .before .bytes-fit .result) (fits .if1 .left))
+
+returns-5 : tie.Need-returns-5
+returns-5 c =
+    let used = c .before in
+    let ends = used .before .before in
+    let permits = ends .before .before in
+    let fits = permits .before .before in
+    rw (
+      ← fits .before .bytes-fit .ensures,
+      not-false (fits .before .bytes-fit .result) (fits .if1 .left),
+      ← permits .before .parents-stand .ensures,
+      not-false (permits .before .parents-stand .result) (permits .if2 .left),
+      ← ends .before .chains-end .ensures,
+      not-false (ends .before .chains-end .result) (ends .if3 .left),
+      ← used .before .none-free .ensures,
+      not-false (used .before .none-free .result) (used .if4 .left),
+    )
+    (c .drains-well .ensures)
 
 pub sound-spec : {M : Type 1} → statement M
 sound-spec =
@@ -75,4 +100,6 @@ sound-spec =
     chains-end-requires
     returns-3
     none-free-requires
-    returns-4)
+    returns-4
+    drains-well-requires
+    returns-5)

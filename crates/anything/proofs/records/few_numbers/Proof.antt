@@ -19,11 +19,8 @@ loop-holds c = search needs
 following-requires : tie.Need-following-requires Inv-loop μ-loop
 following-requires c κs = search needs
 
-add-b : tie.Need-add-b Inv-loop μ-loop
-add-b c = search needs
-
-cast-b : tie.Need-cast-b Inv-loop μ-loop
-cast-b c = search needs
+few-state-requires : tie.Need-few-state-requires Inv-loop μ-loop
+few-state-requires c κs = search needs
 
 element-write-b : tie.Need-element-write-b Inv-loop μ-loop
 element-write-b c = search needs
@@ -31,8 +28,8 @@ element-write-b c = search needs
 following-requires-2 : tie.Need-following-requires-2 Inv-loop μ-loop
 following-requires-2 c κs = search needs
 
-cast-b-2 : tie.Need-cast-b-2 Inv-loop μ-loop
-cast-b-2 c = search needs
+cast-b : tie.Need-cast-b Inv-loop μ-loop
+cast-b c = search needs
 
 element-write-b-2 : tie.Need-element-write-b-2 Inv-loop μ-loop
 element-write-b-2 c = search needs
@@ -73,11 +70,10 @@ few-numbers-spec =
     empty-requires
     loop-holds
     following-requires
-    add-b
-    cast-b
+    few-state-requires
     element-write-b
     following-requires-2
-    cast-b-2
+    cast-b
     element-write-b-2
     add-n
     loop-less

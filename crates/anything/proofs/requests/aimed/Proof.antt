@@ -5,10 +5,10 @@ use Rattle.anything.proofs.requests.aimed.Statement.{statement}
 use Rattle.anything.proofs.requests.aimed.Tie as tie
 
 abbrev Inv-loop : tie.InvT-loop
-Inv-loop states n chance step₀ step = Unit
+Inv-loop states code n chance step₀ step = Unit
 
 abbrev μ-loop : tie.MeasureT-loop
-μ-loop states n chance step₀ step = 64 - step
+μ-loop states code n chance step₀ step = 64 - step
 
 returns : tie.Need-returns Inv-loop μ-loop
 returns c = search needs
@@ -19,11 +19,14 @@ loop-holds c = search needs
 add-at : tie.Need-add-at Inv-loop μ-loop
 add-at c = search needs
 
-cast-if3 : tie.Need-cast-if3 Inv-loop μ-loop
-cast-if3 c = search needs
+cast-fits : tie.Need-cast-fits Inv-loop μ-loop
+cast-fits c = search needs
 
-element-copy-out-if3 : tie.Need-element-copy-out-if3 Inv-loop μ-loop
-element-copy-out-if3 c = search needs
+element-copy-out-fits : tie.Need-element-copy-out-fits Inv-loop μ-loop
+element-copy-out-fits c = search needs
+
+fits-requires : tie.Need-fits-requires Inv-loop μ-loop
+fits-requires c κs = search needs
 
 returns-2 : tie.Need-returns-2 Inv-loop μ-loop
 returns-2 c = search needs
@@ -49,8 +52,9 @@ aimed-spec =
     returns
     loop-holds
     add-at
-    cast-if3
-    element-copy-out-if3
+    cast-fits
+    element-copy-out-fits
+    fits-requires
     returns-2
     add-step
     loop-less

@@ -1,17 +1,15 @@
--- `Bench::abort` meets its contract: where the request is accepted, the family that `family_of` gathers has left all four arrays; where it is refused,
--- the record is as it came. Assumes nothing.
-use mathlib.Core.Path.{_≡_}
-use Prim.Native.Nat.{_%_}
-use native.Mathlib.Omega.{arith}
+-- `Bench::abort` meets its contract: where the request is accepted, the family that `family_of` gathers has left the tree, and drains or is free by its byte; where it is
+-- refused, the record is as it came. Assumes nothing.
+use Prim.Native.Nat.{_<_, _^_}
 use borrow.Author.Needs.{needs}
-use lib.ListN.{length}
 use Rattle.rules.specs.Requests.{abort}
-use Rattle.tables.proofs.Steps.{granted-by, step-refused}
 use Rattle.rules.specs.ReadWrite.{readWrite}
+use Rattle.tables.specs.Steps.{Long}
+use Rattle.tables.proofs.Steps.{granted-by, step-refused}
 use Rattle.views.specs.View.{layout, arrays}
-use Rattle.tables.proofs.Accepts.{abort-accepted}
+use Rattle.views.proofs.Words.{arrays-long}
 use Rattle.bench.specs.Record.{viewed}
-use Rattle.bench.proofs.Leaving.{family-leaves}
+use Rattle.bench.proofs.Leaving.{family-aborts}
 use Rattle.bench.proofs.Bench.abort.Statement.{statement}
 use Rattle.bench.proofs.Bench.abort.Tie as tie
 
@@ -24,40 +22,34 @@ cast-family-of c = search needs
 family-of-requires : tie.Need-family-of-requires
 family-of-requires c κs = search needs
 
-clear-bytes-requires : tie.Need-clear-bytes-requires
-clear-bytes-requires c κs = search needs
+drain-byte-requires : tie.Need-drain-byte-requires
+drain-byte-requires c κs = search needs
 
-clear-bytes-requires-2 : tie.Need-clear-bytes-requires-2
-clear-bytes-requires-2 c κs = search needs
+put-bytes-requires : tie.Need-put-bytes-requires
+put-bytes-requires c κs = search needs
 
-clear-sets-requires : tie.Need-clear-sets-requires
-clear-sets-requires c κs = search needs
+put-bytes-requires-2 : tie.Need-put-bytes-requires-2
+put-bytes-requires-2 c κs = search needs
 
-clear-sets-requires-2 : tie.Need-clear-sets-requires-2
-clear-sets-requires-2 c κs = search needs
-
--- the parents of a record
-parents-long : (s : tie.Start) → length (s .args .t1 .parents) ≡ 64
-parents-long s = search (needs, s .good)
+-- the arrays of a record
+long : (s : tie.Start) → Long layout (arrays (s .args .t1 .parents) (s .args .t1 .states) (s .args .t1 .reads) (s .args .t1 .writes))
+long s = arrays-long (search (needs, s .good)) (search (needs, s .good)) (search (needs, s .good)) (search (needs, s .good))
 
 returns : tie.Need-returns
 returns c =
-    let reads = c .before .before in
-    let states = reads .before .before in
-    let parents = states .before .before in
-    let gathered = parents .before .before in
-    let answered = gathered .before .before .before in
-    let s = answered .before .before .before .before .before .before .before in
-    let args = s .args in
-    let b = args .t1 in
-    abort-accepted layout (arrays (b .parents) (b .states) (b .reads) (b .writes)) (answered .before .abort-answer .result) (args .a)
-    (arrays (parents .clear-bytes .last .0) (states .clear-bytes2 .last .0) (reads .clear-sets .last .0) (c .clear-sets2 .last .0))
-    (family-leaves (b .parents) (b .states) (b .reads) (b .writes)
-    (granted-by readWrite (viewed b) (abort (args .a)) (answered .before .abort-answer .result) (answered .before .abort-answer .ensures)
-    (answered .if1 .taken) .isSound)
-    (parents-long s) (args .a % 64) (gathered .family-of .result) (omega arith) (gathered .family-of .ensures)
-    (parents .clear-bytes .ensures) (states .clear-bytes2 .ensures) (reads .clear-sets .ensures) (c .clear-sets2 .ensures))
-    (answered .before .abort-answer .ensures) (answered .if1 .taken)
+    let parents = c .before .before in
+    let drained = parents .before .before in
+    let gathered = drained .before .before .before .before in
+    let accepted = gathered .before .before .before in
+    let answered = accepted .before in
+    let s = answered .before .before .before .before .before .before in
+    let fits : gathered .family-of .result < 2 ^ 64 = search needs in
+    family-aborts (record {
+      long = long s;
+      isSound = granted-by readWrite (viewed (s .args .t1)) (abort (s .args .a)) (answered .abort-answer .result) (answered .abort-answer .ensures) (accepted .if1 .taken) .isSound;
+    })
+    (s .args .a) (gathered .family-of .result) (drained .drain-byte .result) (answered .abort-answer .result) fits (gathered .family-of .ensures)
+    (drained .drain-byte .ensures) (parents .put-bytes .ensures) (c .put-bytes2 .ensures) (answered .abort-answer .ensures) (accepted .if1 .taken)
 
 returns-2 : tie.Need-returns-2
 returns-2 c =
@@ -71,9 +63,8 @@ abort-spec =
     abort-answer-requires
     cast-family-of
     family-of-requires
-    clear-bytes-requires
-    clear-bytes-requires-2
-    clear-sets-requires
-    clear-sets-requires-2
+    drain-byte-requires
+    put-bytes-requires
+    put-bytes-requires-2
     returns
     returns-2)

@@ -2,12 +2,10 @@
 use mathlib.Core.Path.{_∙_}
 use borrow.Author.Needs.{needs}
 use Rattle.rules.specs.Requests.{commit}
-use Rattle.rules.specs.Owners.{hasRunningChild}
-use Rattle.rules.specs.Answers.{rowBy}
-use Rattle.views.specs.View.{view}
+use Rattle.views.specs.View.{view, layout, arrays}
 use Rattle.rules.specs.ReadWrite.{readWrite}
 use Rattle.tables.proofs.Steps.{answer-unsound, answer-sound}
-use Rattle.tables.proofs.Rows.{looked-for-child}
+use Rattle.tables.proofs.Rows.{looked-for-child, commit-row-shown}
 use Rattle.steps.proofs.Laws.{commit-row-is}
 use Rattle.bench.proofs.answers.commit_answer.Statement.{statement}
 use Rattle.bench.proofs.answers.commit_answer.Tie as tie
@@ -34,7 +32,6 @@ commit-row-requires : tie.Need-commit-row-requires
 commit-row-requires c κs = search needs
 
 returns-2 : tie.Need-returns-2
-unfolding rowBy hasRunningChild
 returns-2 c =
     let asked = c .before .before in
     let sound = asked .before .sound in
@@ -43,6 +40,7 @@ returns-2 c =
     let child = looked-for-child 64 (args .parents .now) (args .states .now) (args .a) (busy .result) (busy .ensures) in
     c .commit-row .ensures
     ∙ commit-row-is (args .parents .now) (args .states .now) (args .a) (busy .result) child
+    ∙ commit-row-shown layout (arrays (args .parents .now) (args .states .now) (args .reads .now) (args .writes .now)) (args .a)
     ∙ answer-sound readWrite (view (args .parents .now) (args .states .now) (args .reads .now) (args .writes .now)) (commit (args .a)) (sound .result) (sound .ensures)
     (asked .if1 .left)
 

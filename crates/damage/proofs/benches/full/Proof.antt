@@ -1,4 +1,4 @@
--- Locks on 128 instruments, then commits among 32 numbers.
+-- Locks on 128 instruments, then commits and aborts among 32 numbers.
 use borrow.Author.Needs.{needs}
 use Prim.Native.Nat.{_-_}
 use Rattle.damage.proofs.benches.full.Statement.{statement}
@@ -49,6 +49,9 @@ loop2-holds c = search needs
 commit-requires : tie.Need-commit-requires Inv-loop μ-loop Inv-loop2 μ-loop2
 commit-requires c κs = search needs
 
+abort-requires : tie.Need-abort-requires Inv-loop μ-loop Inv-loop2 μ-loop2
+abort-requires c κs = search needs
+
 add-n : tie.Need-add-n Inv-loop μ-loop Inv-loop2 μ-loop2
 add-n c = search needs
 
@@ -80,6 +83,7 @@ full-spec =
     loop-again
     loop2-holds
     commit-requires
+    abort-requires
     add-n
     loop2-less
     loop2-again

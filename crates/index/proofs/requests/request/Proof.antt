@@ -1,9 +1,9 @@
--- `request` meets its contract: codes 3 and 4 ask, those below open, and the rest end an action or are malformed. Assumes nothing.
+-- `request` meets its contract: codes 3 and 4 ask, those below open, 7 is quiet, and the rest end an action or are malformed. Assumes nothing.
 use mathlib.Core.Path.{refl}
 use Prim.Native.Nat.{_^_, _<_}
 use borrow.Author.Needs.{needs}
 use Rattle.index.specs.Tables.{Table, table, runningSet}
-use Rattle.index.proofs.Kept.{kept-ask, kept-open, kept-end}
+use Rattle.index.proofs.Kept.{kept-ask, kept-open, kept-quiet, kept-end}
 use Rattle.index.proofs.requests.request.Statement.{statement}
 use Rattle.index.proofs.requests.request.Tie as tie
 
@@ -63,17 +63,30 @@ returns-2 c =
     let after = table (c .open-indexed .last .0) (c .open-indexed .last .1 .0) (a .owners .now) (c .open-indexed .last .1 .1 .0) in
     kept-open {before = before s} {after = after} (a .code) (a .x) (a .y) (fits (met .before)) (opens .before .if1 .left) (opens .if2 .taken) (c .open-indexed .ensures .0) refl (c .open-indexed .ensures .1)
 
-end-indexed-requires : tie.Need-end-indexed-requires
-end-indexed-requires c κs = search needs
+quiet-requires : tie.Need-quiet-requires
+quiet-requires c κs = search needs
 
 returns-3 : tie.Need-returns-3
 returns-3 c =
-    let ends = c .before .before .before .before .before in
+    let quiets = c .before .before .before in
+    let met = quiets .before .before .before in
+    let s = met .before .before .before .before in
+    let a = s .args in
+    let after = table (a .parents .now) (c .quiet .last .0) (c .quiet .last .1 .0) (a .index .now) in
+    kept-quiet {before = before s} {after = after} (a .code) (a .x) (a .y) (fits (met .before)) (quiets .if3 .taken) (c .quiet .ensures) refl refl
+
+end-indexed-requires : tie.Need-end-indexed-requires
+end-indexed-requires c κs = search needs
+
+returns-4 : tie.Need-returns-4
+returns-4 c =
+    let loud = c .before .before .before .before .before in
+    let ends = loud .before in
     let met = ends .before .before in
     let s = met .before .before .before .before in
     let a = s .args in
     let last = c .end-indexed .last in
-    kept-end {before = before s} {after = table (last .0) (last .1 .0) (last .1 .1 .0) (last .1 .1 .1 .0)} (a .code) (a .x) (a .y) (fits (met .before)) (ends .before .if1 .left) (ends .if2 .left) (rw (met .meet .ensures, met .before .running .ensures) at (c .end-indexed .ensures))
+    kept-end {before = before s} {after = table (last .0) (last .1 .0) (last .1 .1 .0) (last .1 .1 .1 .0)} (a .code) (a .x) (a .y) (fits (met .before)) (ends .before .if1 .left) (ends .if2 .left) (loud .if3 .left) (rw (met .meet .ensures, met .before .running .ensures) at (c .end-indexed .ensures))
 
 pub request-spec : {M : Type 1} → statement M
 request-spec =
@@ -91,5 +104,7 @@ request-spec =
     returns
     open-indexed-requires
     returns-2
+    quiet-requires
+    returns-3
     end-indexed-requires
-    returns-3)
+    returns-4)

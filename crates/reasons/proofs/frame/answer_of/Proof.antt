@@ -5,7 +5,7 @@ use Prim.Native.Nat.{ℕ}
 use borrow.Author.Needs.{needs}
 use borrow.Author.Tests.{ne-eqb}
 use lib.Dec.{eqb}
-use Rattle.rules.specs.Requests.{openTop, openSub, commit, abort}
+use Rattle.rules.specs.Requests.{openTop, openSub, commit, abort, quiet}
 use Rattle.rules.specs.ReadWrite.{read, write}
 use Rattle.rules.specs.Frames.{framed}
 use Rattle.reasons.proofs.Frames.{answered-as, malformed-as}
@@ -66,9 +66,19 @@ returns-6 c =
     let e : a .code ≡ 6 = c .before .if6 .taken in
     answered-as (a .bench) (framed (a .code) (a .x) (a .y)) (abort (a .x)) (c .abort .result) (rw e) (c .abort .ensures)
 
+quiet-requires : tie.Need-quiet-requires
+quiet-requires c κs = search needs
+
 returns-7 : tie.Need-returns-7
 returns-7 c =
-    let e5 = c .before in
+    let a = c .before .before .before .before .before .before .before .before .args in
+    let e : a .code ≡ 7 = c .before .if7 .taken in
+    answered-as (a .bench) (framed (a .code) (a .x) (a .y)) (quiet (a .x) (a .y)) (c .quiet .result) (rw e) (c .quiet .ensures)
+
+returns-8 : tie.Need-returns-8
+returns-8 c =
+    let e6 = c .before in
+    let e5 = e6 .before in
     let e4 = e5 .before in
     let e3 = e4 .before in
     let e2 = e3 .before in
@@ -80,8 +90,9 @@ returns-7 c =
     let n3 : eqb code 3 ≡ false = ne-eqb _ _ (e3 .if3 .left) in
     let n4 : eqb code 4 ≡ false = ne-eqb _ _ (e4 .if4 .left) in
     let n5 : eqb code 5 ≡ false = ne-eqb _ _ (e5 .if5 .left) in
-    let n6 : eqb code 6 ≡ false = ne-eqb _ _ (c .if6 .left) in
-    malformed-as (a .bench) (framed code (a .x) (a .y)) (rw (n1, n2, n3, n4, n5, n6))
+    let n6 : eqb code 6 ≡ false = ne-eqb _ _ (e6 .if6 .left) in
+    let n7 : eqb code 7 ≡ false = ne-eqb _ _ (c .if7 .left) in
+    malformed-as (a .bench) (framed code (a .x) (a .y)) (rw (n1, n2, n3, n4, n5, n6, n7))
 
 pub answer-of-spec : {M : Type 1} → statement M
 answer-of-spec =
@@ -99,4 +110,6 @@ answer-of-spec =
     returns-5
     abort-requires
     returns-6
-    returns-7)
+    quiet-requires
+    returns-7
+    returns-8)

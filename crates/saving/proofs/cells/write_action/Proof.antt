@@ -21,14 +21,14 @@ returns c =
 used : (c : tie.Else1) → let a = c .before .before .before .args in bareAt action (a .parents .now) (a .states .now) (a .k) ≡ false
 used c = let a = c .before .before .before .args in ne-eqb (getD (a .states .now) (a .k) 0) 0 (c .if1 .left)
 
+state-digits-requires : tie.Need-state-digits-requires
+state-digits-requires c κs = search needs
+
 element-copy-out-parent-digits : tie.Need-element-copy-out-parent-digits
 element-copy-out-parent-digits c = search needs
 
 parent-digits-requires : tie.Need-parent-digits-requires
 parent-digits-requires c κs = search needs
-
-wide-requires : tie.Need-wide-requires
-wide-requires c κs = search needs
 
 put-frame-requires : tie.Need-put-frame-requires
 put-frame-requires c κs =
@@ -43,11 +43,12 @@ same-length c = search needs
 returns-2 : tie.Need-returns-2
 returns-2 c =
     let put = c .before .before in
-    let parent = put .before .before .before in
-    let left = parent .before .before in
+    let pp = put .before .before in
+    let ss = pp .before .before in
+    let left = ss .before in
     let a = left .before .before .before .args in
     frame-written action (a .parents .now) (a .states .now) (a .k) (used left)
-    (rw (parent .parent-digits .ensures, put .before .wide .ensures) at (put .put-frame .ensures))
+    (rw (ss .state-digits .ensures, pp .parent-digits .ensures) at (put .put-frame .ensures))
 
 pub write-action-spec : {M : Type 1} → statement M
 write-action-spec =
@@ -55,9 +56,9 @@ write-action-spec =
     (tie.spec
     element-copy-out-state
     returns
+    state-digits-requires
     element-copy-out-parent-digits
     parent-digits-requires
-    wide-requires
     put-frame-requires
     same-length
     returns-2)

@@ -4,11 +4,11 @@ use Rattle.steps.proofs.Steps.{same-lent}
 use Rattle.steps.proofs.engine.free.Statement.{statement}
 use Rattle.steps.proofs.engine.free.Tie as tie
 
-clear-bytes-requires : tie.Need-clear-bytes-requires
-clear-bytes-requires c κs = search needs
+put-bytes-requires : tie.Need-put-bytes-requires
+put-bytes-requires c κs = search needs
 
-clear-bytes-requires-2 : tie.Need-clear-bytes-requires-2
-clear-bytes-requires-2 c κs = search needs
+put-bytes-requires-2 : tie.Need-put-bytes-requires-2
+put-bytes-requires-2 c κs = search needs
 
 clear-words-requires : tie.Need-clear-words-requires
 clear-words-requires c κs = search needs
@@ -20,9 +20,9 @@ returns : tie.Need-returns
 returns c =
     let owners = c .before .before in
     let states = owners .before .before in
-    same-lent (states .before .before .clear-bytes .ensures) (states .clear-bytes2 .ensures) (owners .clear-words .ensures)
+    same-lent (states .before .before .put-bytes .ensures) (states .put-bytes2 .ensures) (owners .clear-words .ensures)
 
 pub free-spec : {M : Type 1} → statement M
 free-spec =
     tie.close
-    (tie.spec clear-bytes-requires clear-bytes-requires-2 clear-words-requires same-length returns)
+    (tie.spec put-bytes-requires put-bytes-requires-2 clear-words-requires same-length returns)

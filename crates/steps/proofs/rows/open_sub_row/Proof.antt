@@ -4,7 +4,7 @@ use borrow.Author.Needs.{needs}
 use borrow.Author.Tests.{le-leb, lt-leb, eq-eqb, ne-eqb}
 use lib.ListN.{getD}
 use Rattle.rules.specs.Answers.{rowBy}
-use Rattle.tables.proofs.ViewLaws.{free-byte}
+use Rattle.tables.proofs.States.{free-byte}
 use Rattle.tables.proofs.Rows.{open-sub-last}
 use Rattle.steps.proofs.rows.open_sub_row.Statement.{statement}
 use Rattle.steps.proofs.rows.open_sub_row.Tie as tie
@@ -28,7 +28,7 @@ returns-3 c =
     let known = c .before .before in
     let s = known .before .before in
     let state = getD (s .args .states .now) (s .args .n) 0 in
-    rw (lt-leb 64 (s .args .n) (known .before .if1 .left), lt-leb 64 (s .args .p) (known .if2 .left), free-byte state, ne-eqb state 0 (c .if3 .taken))
+    rw (lt-leb 64 (s .args .n) (known .before .if1 .left), lt-leb 64 (s .args .p) (known .if2 .left), free-byte 64 state, ne-eqb state 0 (c .if3 .taken))
 
 element-copy-out-if4 : tie.Need-element-copy-out-if4
 element-copy-out-if4 c = search needs

@@ -3,7 +3,7 @@ use borrow.Author.Needs.{needs}
 use borrow.Author.Tests.{le-leb, lt-leb, eq-eqb, ne-eqb}
 use lib.ListN.{getD}
 use Rattle.rules.specs.Answers.{rowBy}
-use Rattle.tables.proofs.ViewLaws.{free-byte}
+use Rattle.tables.proofs.States.{free-byte}
 use Rattle.steps.proofs.rows.open_top_row.Statement.{statement}
 use Rattle.steps.proofs.rows.open_top_row.Tie as tie
 
@@ -19,14 +19,14 @@ unfolding rowBy
 returns-2 c =
     let s = c .before .before .before in
     let state = getD (s .args .states .now) (s .args .n) 0 in
-    rw (lt-leb 64 (s .args .n) (c .before .before .if1 .left), free-byte state, ne-eqb state 0 (c .if2 .taken))
+    rw (lt-leb 64 (s .args .n) (c .before .before .if1 .left), free-byte 64 state, ne-eqb state 0 (c .if2 .taken))
 
 returns-3 : tie.Need-returns-3
 unfolding rowBy
 returns-3 c =
     let s = c .before .before .before in
     let state = getD (s .args .states .now) (s .args .n) 0 in
-    rw (lt-leb 64 (s .args .n) (c .before .before .if1 .left), free-byte state, eq-eqb state 0 (c .if2 .left))
+    rw (lt-leb 64 (s .args .n) (c .before .before .if1 .left), free-byte 64 state, eq-eqb state 0 (c .if2 .left))
 
 pub open-top-row-spec : {M : Type 1} → statement M
 open-top-row-spec = tie.close (tie.spec returns element-copy-out-if2 returns-2 returns-3)

@@ -61,13 +61,29 @@ abort-requires c κs = search needs
 returns-6 : tie.Need-returns-6
 returns-6 c =
     rw (
-      ne-eqb _ 1 (c .before .before .before .before .before .if1 .left),
-      ne-eqb _ 2 (c .before .before .before .before .if2 .left),
-      ne-eqb _ 3 (c .before .before .before .if3 .left),
-      ne-eqb _ 4 (c .before .before .if4 .left),
-      ne-eqb _ 5 (c .before .if5 .left),
+      ne-eqb _ 1 (c .before .before .before .before .before .before .if1 .left),
+      ne-eqb _ 2 (c .before .before .before .before .before .if2 .left),
+      ne-eqb _ 3 (c .before .before .before .before .if3 .left),
+      ne-eqb _ 4 (c .before .before .before .if4 .left),
+      ne-eqb _ 5 (c .before .before .if5 .left),
+      eq-eqb _ 6 (c .before .if6 .taken),
     )
     (c .abort .ensures)
+
+quiet-requires : tie.Need-quiet-requires
+quiet-requires c κs = search needs
+
+returns-7 : tie.Need-returns-7
+returns-7 c =
+    rw (
+      ne-eqb _ 1 (c .before .before .before .before .before .before .if1 .left),
+      ne-eqb _ 2 (c .before .before .before .before .before .if2 .left),
+      ne-eqb _ 3 (c .before .before .before .before .if3 .left),
+      ne-eqb _ 4 (c .before .before .before .if4 .left),
+      ne-eqb _ 5 (c .before .before .if5 .left),
+      ne-eqb _ 6 (c .before .if6 .left),
+    )
+    (c .quiet .ensures)
 
 pub asked-spec : {M : Type 1} → statement M
 asked-spec =
@@ -84,4 +100,6 @@ asked-spec =
     commit-requires
     returns-5
     abort-requires
-    returns-6)
+    returns-6
+    quiet-requires
+    returns-7)
