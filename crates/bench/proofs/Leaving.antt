@@ -22,7 +22,7 @@ use Rattle.views.specs.Arrays.{SoundArrays}
 use Rattle.views.proofs.Words.{family-left, family-aborted}
 use Rattle.steps.specs.Changes.{bytesLeft, bytesPut, setsLeft, abortedByte}
 use Rattle.steps.proofs.Clears.{bytes-put, sets-left}
-use Rattle.bench.specs.Draining.{DrainByte}
+use Rattle.answering.specs.Draining.{DrainByte}
 
 -- `gone` is the word that was gathered for the family of a
 module _ {parents states reads writes : List ℕ} (pre : SoundArrays parents states reads writes) (a gone : ℕ) (la : a < 64)

@@ -25,17 +25,16 @@ use Rattle.tables.specs.Steps.{OutcomeIs}
 use Rattle.tables.proofs.Members.{meet-any}
 use Rattle.tables.proofs.Groups.{group-at}
 use Rattle.tables.proofs.Rows.{quiet-row-shown}
-use Rattle.tables.proofs.Steps.{answer-sound}
+use Rattle.tables.proofs.Steps.{answer-sound, answer-unsound}
 use Rattle.views.specs.View.{view, layout, arrays}
 use Rattle.views.specs.Families.{given}
 use Rattle.views.specs.Arrays.{SoundArrays}
 use Rattle.views.proofs.Words.{stands-at}
 use Rattle.views.proofs.Quiets.{quiet-stays, quiet-frees}
-use Rattle.steps.specs.Rows.{quietRow}
 use Rattle.steps.specs.Changes.{bytesPut, bytesLeft, groupIn}
 use Rattle.steps.proofs.Clears.{bytes-put, changed-put}
 use Rattle.steps.proofs.Gathered.{set-fits, set-members, group-members}
-use Rattle.bench.specs.Draining.{DrainByte}
+use Rattle.answering.specs.Draining.{DrainByte, quietFound}
 
 -- Those that drain under a have the byte of numbers that do.
 pub group-stays : (states : List ℕ) (a : ℕ) → bytesPut (groupIn states a) (3 + a % 64) states ≡ states
@@ -70,14 +69,14 @@ module _ (parents states reads writes : List ℕ) where
       of-group k l =
           rw grouped (set-members (λ j. eqb (getD states j 0) (3 + a % 64)) 64 (omega arith) k ∙ rw (lt-ltb k 64 l, mod-eq-of-lt la))
 
-  -- `ok` is what the soundness test found
-  pub quiet-answered : (ok : Bool) → ok ≡ sound readWrite (view parents states reads writes) → not ok ≡ false → (a i here group answer : ℕ) (stands : Bool) →
-      here ≡ union (getD reads (i % 128) 0) (getD writes (i % 128) 0) → group ≡ groupIn states a → stands ≡ meet here group → answer ≡ quietRow states stands a i →
+  pub quiet-answered : (a i group answer : ℕ) → group ≡ groupIn states a → answer ≡ quietFound parents states reads writes group a i →
       answer ≡ answerOf readWrite (view parents states reads writes) (quiet a i)
-  quiet-answered ok tested isSound a i here group answer stands are grouped says row =
-      row
-      ∙ quiet-row-shown layout table stands a i (λ la li. says ∙ group-here a i here group are grouped la li)
-      ∙ answer-sound readWrite (view parents states reads writes) (quiet a i) ok tested isSound
+  quiet-answered a i group answer grouped found =
+      by-bool (sound readWrite (view parents states reads writes))
+      (λ ok. (rw ok at found)
+      ∙ quiet-row-shown layout table _ a i (λ la li. group-here a i _ group refl grouped la li)
+      ∙ answer-sound readWrite (view parents states reads writes) (quiet a i) true (sym ok) refl)
+      (λ bad. (rw bad at found) ∙ answer-unsound readWrite (view parents states reads writes) (quiet a i) false (sym bad) refl)
 
 -- ---- what it leaves
 

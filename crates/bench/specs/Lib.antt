@@ -1,3 +1,2 @@
 pub mod Record
 pub mod Plays
-pub mod Draining

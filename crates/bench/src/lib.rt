@@ -1,11 +1,9 @@
 // The bench: 64 action numbers, 128 instruments, seven requests by Moss's rules. The record, the opens, reads and writes; commit, abort and quiet are in `ends`.
-pub mod answers;
 mod ends;
-mod standing;
 
-use answers::ask_answer;
-use answers::open_sub_answer;
-use answers::open_top_answer;
+use answering::ask_answer;
+use answering::open_sub_answer;
+use answering::open_top_answer;
 use marks::answers::ACCEPTED;
 use marks::states::RUNNING;
 ghost use mathlib.Core.Path.{_≡_};
@@ -53,7 +51,7 @@ impl Bench {
     pub fn is_sound(self) -> bool
         ensures { λ r. ⌜ r ≡ sound readWrite (viewed self) ⌝ }
     {
-        answers::sound(&self.parents, &self.states, &self.reads, &self.writes)
+        answering::sound(&self.parents, &self.states, &self.reads, &self.writes)
     }
 
     // Makes n a running top action.

@@ -160,7 +160,7 @@ module _ (parents states : List ℕ) (ok : SoundTree parents states) (long : len
 
   module _ (a : ℕ) (in-use : isFree (treeStateOf (getD states a 0)) ≡ false) where
     -- a descendant of a number that isn't free isn't free: it has a parent
-    descends-in-use : (k : ℕ) → k < 64 → descends parents a k ≡ true → isFree (treeStateOf (getD states k 0)) ≡ false
+    pub descends-in-use : (k : ℕ) → k < 64 → descends parents a k ≡ true → isFree (treeStateOf (getD states k 0)) ≡ false
     descends-in-use k lk d =
         refuted (isFree (treeStateOf (getD states k 0)))
         (λ free. let top = none-byte (getD parents k 0) (sound-facts (treeShape 64) (tree parents states) ok k lk .freeHasNoParent free) in
@@ -176,7 +176,7 @@ module _ (parents states : List ℕ) (ok : SoundTree parents states) (long : len
               descends-child 64 parents (states, ok) a k p lk e ∙ or-right (eqb k a) (descends parents a p) d;
         }
 
-    family-known : (gone : ℕ) → FamilyBy index a gone → (k : ℕ) → member gone k ≡ descends parents a k
+    pub family-known : (gone : ℕ) → FamilyBy index a gone → (k : ℕ) → member gone k ≡ descends parents a k
     family-known gone f =
         gathered-all 64 parents (states, ok) long a gone (record { fits = f .fits; has = f .closed .has; only = only }) (λ k lk. by-byte k lk (getD parents k 0) refl)
       where

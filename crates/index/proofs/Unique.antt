@@ -1,18 +1,16 @@
 -- Each request on any arrays and index has one result, and so has the making of the index. Assumes nothing.
-use mathlib.Core.Path.{_≡_, refl, sym, _∙_, ap}
-use mathlib.Core.Bool.{true, false, _||_}
+use mathlib.Core.Path.{_≡_, sym, _∙_, ap}
+use mathlib.Core.Bool.{_||_}
 use mathlib.Core.List.{List}
-use Prim.Native.Nat.{ℕ, _+_, _-_, _%_, _≤_, _<_, _^_}
+use Prim.Native.Nat.{ℕ, _+_, _-_, _%_, _<_}
 use native.Mathlib.Omega.{arith}
 use borrow.Author.Tests.{eqb-true, eqb-false, ltb-true, ltb-false}
 use lib.Dec.{eqb, ltb}
 use lib.ListN.{length, getD, take, drop, length-take, List·getD-eq-default}
 use lib.Seq.{ext-getD, getD-take, getD-drop}
-use Rattle.rules.specs.Tests.{if_then_else_}
-use Rattle.rules.proofs.Tests.{by-bool, clash}
+use Rattle.rules.proofs.Tests.{by-bool}
 use Rattle.rules.proofs.Frames.{end-code}
 use Rattle.views.specs.Arrays.{freesBy}
-use Rattle.steps.specs.Arrays.{Arrays}
 use Rattle.steps.proofs.Unique.{one-result}
 use Rattle.tree.proofs.Unique.{Words, children-unique, lines-unique, running-unique}
 use Rattle.index.specs.Tables.{Table, childSets, lineSets, runningSet, arraysIn}
@@ -89,5 +87,16 @@ made-unique parents states one other fits fits' f g =
         let at : 64 + (p - 64) ≡ p = omega arith in
         let l : p - 64 < 64 = omega arith in
         rw at at (line-read (own-parts one (f .long)) (p - 64) l ∙ ap (λ (w : List ℕ). getD w (p - 64) 0) lines ∙ sym (line-read (own-parts other (g .long)) (p - 64) l)))
-        (λ u. let last : p ≡ 128 = (let past = ltb-false p 128 u in let long = f .long in omega arith) in
-        rw last (running-unique states (runningSet one) (runningSet other) (fits 128) (fits' 128) (f .ofRunning) (g .ofRunning))))
+        (λ u. let past = ltb-false p 128 u in
+        by-bool (ltb p 129)
+        (λ v. let last : p ≡ 128 = (let low = ltb-true p 129 v in omega arith) in
+        rw last (running-unique states (runningSet one) (runningSet other) (fits 128) (fits' 128) (f .ofRunning) (g .ofRunning)))
+        (λ v. let behind = ltb-false p 129 v in
+        by-bool (ltb p 193)
+        (λ w. let low = ltb-true p 193 w in
+        let at : 129 + (p - 129) ≡ p = omega arith in
+        rw at at (f .ofGroups (p - 129) (omega arith) ∙ sym (g .ofGroups (p - 129) (omega arith))))
+        (λ w. let high = ltb-false p 193 w in
+        let long = f .long in
+        let at : 193 + (p - 193) ≡ p = omega arith in
+        rw at at (f .ofPlaces (p - 193) (omega arith) ∙ sym (g .ofPlaces (p - 193) (omega arith)))))))

@@ -1,5 +1,5 @@
--- The arrays of a bench, and the index, which is kept beside them so that no line looks through them. The index has 129 words: the children of each of the 64
--- numbers, then each number with its ancestors, and last the running numbers, all as sets.
+-- The arrays of a bench, and the index, which is kept beside them so that no line looks through them. The index has 257 words: the children of each of the 64
+-- numbers, then each number with its ancestors, then the running numbers, all as sets; then the group of each head, and last the places of each number.
 use mathlib.Core.List.{List}
 use mathlib.Core.Option.{Option}
 use mathlib.Core.Path.{_≡_}
@@ -10,6 +10,7 @@ use Rattle.rules.specs.Requests.{Request}
 use Rattle.tables.specs.Tree.{tree}
 use Rattle.views.specs.Index.{Indexed}
 use Rattle.steps.specs.Arrays.{Arrays, lent, SoundLists, SteppedTo}
+use Rattle.index.specs.Places.{Placed}
 
 -- ---- the index
 
@@ -22,9 +23,9 @@ lineSets index = take 64 (drop 64 index)
 abbrev pub runningSet : List ℕ → ℕ
 runningSet index = getD index 128 0
 
--- It is that of a bench.
+-- Its first parts are those of a bench.
 pub record IndexOf (b : rules.Bench) (index : List ℕ) : Type 0 where
-  pub long : length index ≡ 129
+  pub long : length index ≡ 257
   pub sets : Indexed b (childSets index) (lineSets index) (runningSet index)
 
 -- ---- the table
@@ -44,8 +45,9 @@ abbrev pub arraysIn : Table → Arrays
 arraysIn t = lent (t .parents) (t .states) (t .owners)
 
 -- The index is that of the arrays.
-abbrev pub IndexIn : Table → Type 0
-IndexIn t = IndexOf (tree (t .parents) (t .states)) (t .index)
+pub record IndexIn (t : Table) : Type 0 where
+  pub ofTree : IndexOf (tree (t .parents) (t .states)) (t .index)
+  pub placed : Placed (t .states) (t .owners) (t .index)
 
 -- The table is that of a sound bench.
 pub record SoundTable (t : Table) : Type 0 where

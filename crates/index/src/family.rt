@@ -1,11 +1,11 @@
 // Families, by the sets of children in the index.
-use steps::ACTIONS;
+use rows::ACTIONS;
 use steps::engine::frees;
 ghost use Prim.Native.Nat.{_<_};
 ghost use Rattle.index.specs.Families.{FamilyBy, FreedBy};
 
 // a and all its descendants: `rest` are children of numbers taken in so far that are still to be taken in.
-fn family_in(index: &[u64; 129], a: usize) -> u64
+fn family_in(index: &[u64; 257], a: usize) -> u64
     requires { ⌜ a < 64 ⌝ }
     ensures { λ r. ⌜ FamilyBy (now (index .entry)) a r ⌝ }
 {
@@ -20,7 +20,7 @@ fn family_in(index: &[u64; 129], a: usize) -> u64
 }
 
 // The family that a commit or an abort frees, and nobody where it frees none.
-pub(crate) fn freed_in<'a>(parents: &'a [u8; 64], index: &'a [u64; 129], code: u8, x: u32) -> u64
+pub(crate) fn freed_in<'a>(parents: &'a [u8; 64], index: &'a [u64; 257], code: u8, x: u32) -> u64
     ensures { λ r. ⌜ FreedBy code x (now (parents .entry)) (now (index .entry)) r ⌝ }
 {
     if frees(parents, code, x) {

@@ -1,12 +1,12 @@
 // Who blocks: the owners of an instrument that are neither the asker nor an ancestor; and who is a running child.
 use crate::Reason;
+use heirs::owners::conflicting;
+use heirs::owners::owners_of;
 use marks::answers::NOT_GRANTED;
 use marks::bytes::wide;
 use marks::codes::WRITE;
 use marks::states::DRAINING;
 use marks::states::RUNNING;
-use tree::owners::conflicting;
-use tree::owners::owners_of;
 ghost use mathlib.Core.Path.{_≡_};
 ghost use Prim.Native.Nat.{_%_};
 ghost use Rattle.rules.specs.Tests.{from};

@@ -5,8 +5,8 @@ use crate::owners::WRITES;
 use crate::owners::owners_of;
 use crate::place::Place;
 use crate::place::feed_bytes;
+use answering::sound;
 use bench::Bench;
-use bench::answers::sound;
 use copies::words_from;
 use index::index_of;
 ghost use mathlib.Core.Path.{_≡_};
@@ -41,7 +41,7 @@ impl Player {
         let writes = bench.writes;
         let is_sound = sound(&parents, &states, &reads, &writes);
         let mut owners = owners_of(&reads, &writes);
-        let mut index = [0u64; 129];
+        let mut index = [0u64; 257];
         if is_sound {
             index = index_of(&parents, &states);
         }

@@ -1,10 +1,10 @@
 // A top is reached within 63 steps: a chain of all 64 numbers is as long as can be, and a ring of all 64 never gets there.
+use crate::unsound::kept;
 use bench::Bench;
 use trials::same::same;
+use trials::session::played;
 use trials::show::fact;
-use trials::show::first;
 use trials::show::last_fact;
-use trials::show::then;
 
 // All 64 numbers running, each under the next one up, and 63 a top.
 fn longest_chain() -> Bench {
@@ -20,15 +20,11 @@ fn longest_chain() -> Bench {
 // From 0 it is 63 steps to the top. 0 has no running child and every other number has one. All 64 drain under the top.
 fn chain_of_64() {
     let b = longest_chain();
-    let written = first(b.write(0, 5));
+    let written = played(b, b"w0,5");
     fact(b.is_sound());
-    let b = then(written.write(1, 5));
-    let b = then(b.commit(1));
-    let b = then(b.commit(0));
-    let b = then(b.write(1, 5));
-    let b = then(b.abort(63));
+    let b = played(written, b" w1,5 c1 c0 w1,5 a63");
     fact((b.states[0] == 66) & (b.states[63] == 66));
-    let b = then(b.quiet(63, 5));
+    let b = played(b, b" q63,5");
     last_fact(same(b, Bench::empty()));
 }
 
@@ -36,9 +32,9 @@ fn chain_of_64() {
 fn ring_of_64() {
     let mut b = longest_chain();
     b.parents[63] = 1;
-    let after = first(b.write(0, 5));
+    let same = kept(b, b"w0,5");
     fact(b.is_sound());
-    last_fact(same(b, after));
+    last_fact(same);
 }
 
 pub(crate) fn chains() {

@@ -2,10 +2,9 @@
 // the answers of the seven requests, then whether the record is sound, then whether all seven handed it back as it came.
 use bench::Bench;
 use trials::same::same;
+use trials::session::played;
 use trials::show::fact;
-use trials::show::first;
 use trials::show::last_fact;
-use trials::show::then;
 
 // A sound record: 1 a running top; under it 2, which runs, and 3, which wrote instrument 6 and is committed; and 4, which wrote instrument 8 and drains.
 pub(crate) fn busy() -> Bench {
@@ -33,31 +32,32 @@ fn with_sets(mut b: Bench, i: usize, reads: u64, writes: u64) -> Bench {
     b
 }
 
-// The seven requests, each of the same record. Where 1 and 2 are as in `busy`, one that drains under 4 stands in the sets of instrument 8, and the record is
-// sound, all are accepted.
-fn seven(b: Bench) {
-    let kept = same(b, first(b.open_top(20)));
-    let kept = kept & same(b, then(b.open_sub(21, 2)));
-    let kept = kept & same(b, then(b.read(2, 7)));
-    let kept = kept & same(b, then(b.write(2, 7)));
-    let kept = kept & same(b, then(b.commit(2)));
-    let kept = kept & same(b, then(b.abort(1)));
-    let kept = kept & same(b, then(b.quiet(4, 8)));
+// Whether the record came back as it was from a request, whose answer is written.
+pub(crate) fn kept(b: Bench, text: &[u8]) -> bool {
+    same(b, played(b, text))
+}
+
+// Writes what seven requests have shown of a record.
+fn shown(b: Bench, kept: bool) {
     fact(b.is_sound());
     last_fact(kept);
 }
 
+// The seven requests, each of the same record. Where 1 and 2 are as in `busy`, one that drains under 4 stands in the sets of instrument 8, and the record is
+// sound, all are accepted.
+fn seven(b: Bench) {
+    let opens = kept(b, b"t20") & kept(b, b" s21,2");
+    let asks = kept(b, b" r2,7") & kept(b, b" w2,7");
+    let ends = kept(b, b" c2") & kept(b, b" a1") & kept(b, b" q4,8");
+    shown(b, opens & asks & ends);
+}
+
 // The seven requests with numbers that would get 1: 7 comes before it.
 fn seven_far(b: Bench) {
-    let kept = same(b, first(b.open_top(64)));
-    let kept = kept & same(b, then(b.open_sub(4294967295, 64)));
-    let kept = kept & same(b, then(b.read(64, 128)));
-    let kept = kept & same(b, then(b.write(4294967295, 4294967295)));
-    let kept = kept & same(b, then(b.commit(64)));
-    let kept = kept & same(b, then(b.abort(4294967295)));
-    let kept = kept & same(b, then(b.quiet(64, 4294967295)));
-    fact(b.is_sound());
-    last_fact(kept);
+    let opens = kept(b, b"t64") & kept(b, b" s4294967295,64");
+    let asks = kept(b, b" r64,128") & kept(b, b" w4294967295,4294967295");
+    let ends = kept(b, b" c64") & kept(b, b" a4294967295") & kept(b, b" q64,4294967295");
+    shown(b, opens & asks & ends);
 }
 
 // Rules 1 and 2, and bytes that mean nothing.

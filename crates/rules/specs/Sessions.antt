@@ -138,7 +138,7 @@ drainedChildHasLeft =
     ∷ (openTop 2 gives 0)
     ∷ []
 
--- A draining number is nobody's heir: an ancestor that owns the instrument is blocked too.
+-- What a draining number holds isn't its former ancestors': one of them that owns the instrument itself is blocked too.
 ancestorIsBlocked : List Line
 ancestorIsBlocked =
     (openTop 1 gives 0)

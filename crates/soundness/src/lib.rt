@@ -1,12 +1,11 @@
-// The soundness test: rules 1 to 4 of document 01 on the arrays of a record, and the groups that drain, in the order in which they are cheapest to refuse.
+// The soundness test: rules 1 to 4 of document 01 on the arrays of a record, and the groups that drain. The chains of parents, which can be the dearest, come last.
 mod chains;
 mod draining;
 
 use crate::chains::chains_end;
-use crate::draining::drains_well;
+use crate::draining::stand_well;
 use marks::bytes::wide;
 use marks::states::COMMITTED;
-use marks::states::FREE;
 use marks::states::RUNNING;
 ghost use mathlib.Core.Path.{_≡_};
 ghost use Prim.Native.Nat.{ℕ, _≤_, _<_};
@@ -14,11 +13,9 @@ ghost use lib.Dec.{leb};
 ghost use lib.ListN.{length, getD};
 ghost use Rattle.sets.specs.Sets.{member};
 ghost use Rattle.rules.specs.Tests.{all, any};
-ghost use Rattle.tables.specs.Tree.{inUse};
 ghost use Rattle.views.specs.Soundness.{bytesFit, soundWith};
 ghost use Rattle.tables.specs.Soundness.{forbidsOf, forbiddenUnder, permitted};
 ghost use Rattle.views.specs.Families.{upperChild, NoParentsFrom};
-ghost use Rattle.tables.specs.Owners.{ofMembers};
 
 // Each number's bytes by themselves: rules 1 and 2 but for the sets, that a parent's byte names a number of the table, and that a byte from 3 to 66, of one that
 // drains, has no parent beside it.
@@ -119,21 +116,6 @@ pub fn standing(words: &[u64]) -> u64
     numbers
 }
 
-// Whether none of the numbers is free.
-fn none_free(states: &[u8; 64], numbers: u64) -> bool
-    ensures { λ r. ⌜ r ≡ ofMembers 64 numbers (inUse (now (states .entry))) ⌝ }
-{
-    let mut rest = numbers;
-    while rest != 0 {
-        let k = sets::least(rest);
-        if states[k] == FREE {
-            return false;
-        }
-        rest = sets::without_least(rest);
-    }
-    true
-}
-
 // Whether a record of these parents and states is sound, where `numbers` are those that stand in a set.
 pub fn sound<'a>(parents: &'a [u8; 64], states: &'a [u8; 64], numbers: u64) -> bool
     ensures { λ r. ⌜ r ≡ soundWith (now (parents .entry)) (now (states .entry)) numbers ⌝ }
@@ -144,11 +126,8 @@ pub fn sound<'a>(parents: &'a [u8; 64], states: &'a [u8; 64], numbers: u64) -> b
     if !parents_stand(parents, states) {
         return false;
     }
-    if !chains_end(parents) {
+    if !stand_well(states, numbers) {
         return false;
     }
-    if !none_free(states, numbers) {
-        return false;
-    }
-    drains_well(states, numbers)
+    chains_end(parents)
 }

@@ -26,14 +26,15 @@ use Rattle.tables.proofs.Families.{descends-known}
 use Rattle.tables.proofs.InPlace.{commit-found, commit-acts, commit-top-in-place, commit-sub-in-place, abort-found, abort-acts, abort-in-place}
 use Rattle.views.proofs.Words.{arrays-long, reads-long, writes-long, family-left, family-aborted}
 use Rattle.steps.specs.Arrays.{Arrays, viewOf, readSets, writeSets, SoundLists, SteppedTo}
-use Rattle.steps.specs.Rows.{commitRow, abortRow, endAnswer}
+use Rattle.rows.specs.Rows.{commitRow, abortRow, endAnswer}
 use Rattle.steps.specs.Changes.{standingIn, standIn, abortedByte, freed, aborted, ended}
 use Rattle.steps.specs.Steps.{Ended}
 use Rattle.steps.proofs.Clears.{bytes-put, sets-left}
 use Rattle.steps.proofs.Gathered.{members-fit}
 use Rattle.steps.proofs.Standing.{standing-halves}
 use Rattle.steps.proofs.Halves.{reads-changed, writes-changed}
-use Rattle.steps.proofs.Laws.{commit-row-is, took-steps, malformed-steps}
+use Rattle.rows.proofs.RowLaws.{commit-row-is}
+use Rattle.steps.proofs.Laws.{took-steps, malformed-steps}
 
 module _ {before : Arrays} (ok : SoundLists before) where
   -- a family that is freed has left the bench

@@ -1,18 +1,18 @@
 -- The set of the numbers of which a test holds: its members, and that it is the only word that has them. Assumes nothing.
 use mathlib.Core.Path.{_≡_, refl, sym, _∙_, ap}
-use mathlib.Core.Bool.{Bool, true, false, _&&_, and-false, or-false, or-true}
+use mathlib.Core.Bool.{Bool, true, _&&_, and-false, or-false, or-true}
 use mathlib.Core.List.{List}
-use Prim.Native.Nat.{ℕ, zero, suc, _+_, _-_, _/_, _%_, _≤_, _<_, _^_}
+use Prim.Native.Nat.{ℕ, zero, suc, _+_, _-_, _*_, _/_, _%_, _≤_, _<_, _^_}
 use mir.Val.{boolByte}
 use native.Mathlib.Omega.{arith}
-use native.Mathlib.Nat.{mod-eq-of-lt, pow-suc}
-use native.Mathlib.Numerals.{add-one}
+use native.Mathlib.Nat.{mod-eq-of-lt, mul-le-mul-right, mul-comm}
 use borrow.Author.Tests.{eqb-true, eqb-false, eq-eqb, ne-eqb, lt-ltb, le-ltb, ltb-true, ltb-false}
 use lib.Dec.{eqb, ltb}
 use lib.ListN.{length, getD, List·getD-eq-default}
-use lib.Pow.{pow-mono}
+use lib.Pow.{pow-mono, pow-add, field, mod-mod-pow, shr-shr}
+use lib.Pow as pow
 use Rattle.sets.specs.Sets.{member}
-use Rattle.sets.proofs.Laws.{digit-test, lowest-digit, member-suc, member-empty, member-with, with-fits, same-members, below-pow}
+use Rattle.sets.proofs.Laws.{member-empty, member-with, with-fits, same-members, below-pow}
 use Rattle.rules.proofs.Tests.{by-bool}
 use Rattle.views.specs.Reach.{descendsKnown}
 use Rattle.steps.specs.Changes.{setOf, familyIn, groupIn}
@@ -51,51 +51,78 @@ module _ (test : ℕ → Bool) where
       by-bool (eqb k n) (λ e. rw (eqb-true k n e) (itself n l (set-members n (omega arith) n)))
       (λ e. other n k l (eqb-false k n e) (set-members n (omega arith) k))
 
--- ---- gathered from the last number on
+-- ---- gathered part by part
 
--- The k last of the 64 numbers of which the test holds, each moved down so that the first of the k is 0.
-pub record Last (test : ℕ → Bool) (k s : ℕ) : Type 0 where
+-- Of the k numbers from `first` on those of which the test holds, each moved down so that the first is 0.
+pub record Moved (test : ℕ → Bool) (first k s : ℕ) : Type 0 where
   pub fits : s < 2 ^ k
-  pub members : (j : ℕ) → j < k → member s j ≡ test (64 - k + j)
+  pub members : (j : ℕ) → j < k → member s j ≡ test (first + j)
+
+-- a set beside another that is moved up by m: below m the one, and from m on the other
+member-low : (high m low j : ℕ) → low < 2 ^ m → j < m → member (high * 2 ^ m + low) j ≡ member low j
+unfolding member
+member-low high m low j fits l =
+    let n = high * 2 ^ m + low in
+    let i = m - j - 1 in
+    let all : i + 1 + j ≡ m = omega arith in
+    let part : low / 2 ^ j ≡ n / 2 ^ j % 2 ^ (i + 1) = ap (λ x. x / 2 ^ j) (sym (pow.low high m fits)) ∙ (rw all at (field n (i + 1) j)) in
+    ap (λ x. eqb x 1) (sym (ap (λ x. x % 2) part ∙ mod-mod-pow (n / 2 ^ j) i 1))
+
+member-high : (high m low j : ℕ) → low < 2 ^ m → member (high * 2 ^ m + low) (m + j) ≡ member high j
+unfolding member
+member-high high m low j fits = ap (λ x. eqb (x % 2) 1) (sym (shr-shr (high * 2 ^ m + low) m j) ∙ ap (λ x. x / 2 ^ j) (pow.high high m fits))
 
 module _ (test : ℕ → Bool) where
-  pub last-none : Last test 0 0
-  last-none = record { fits = omega arith; members = λ j l. absurd (omega arith) }
+  pub moved-none : (first : ℕ) → Moved test first 0 0
+  moved-none first = record { fits = omega arith; members = λ j l. absurd (omega arith) }
 
-  -- A set that is doubled has room for one number more.
-  last-fits : (k s : ℕ) → Last test k s → (t : Bool) → s + s + boolByte t < 2 ^ (k + 1)
-  last-fits k s h t = let below = h .fits in rw (add-one k, pow-suc 2 k) (by-bool t (λ e. rw e (omega arith)) (λ e. rw e (omega arith)))
+  moved-one : (first : ℕ) → Moved test first 1 (boolByte (test first))
+  unfolding member
+  moved-one first = record { fits = by-bool (test first) (λ e. rw e (omega arith)) (λ e. rw e (omega arith)); members = only }
+    where
+      alone : (t : Bool) → member (boolByte t) 0 ≡ t
+      alone t = by-bool t (λ e. rw e) (λ e. rw e)
 
-  pub last-room : (k s : ℕ) → k < 64 → Last test k s → (t : Bool) → s + s + boolByte t < 2 ^ 64
-  last-room k s l h t =
-      let fits = last-fits k s h t in
-      let wider : 2 ^ (k + 1) ≤ 2 ^ 64 = pow-mono {i = k + 1} {j = 64} (omega arith) in
+      only : (j : ℕ) → j < 1 → member (boolByte (test first)) j ≡ test (first + j)
+      only j l =
+          let e : j ≡ 0 = omega arith in
+          let place : first + 0 ≡ first = omega arith in
+          rw (e, place) (alone (test first))
+
+  pub moved-join : (first m k low high : ℕ) → Moved test first m low → Moved test (first + m) k high → Moved test first (m + k) (high * 2 ^ m + low)
+  moved-join first m k low high lower upper = record { fits = fits; members = members }
+    where
+      fits : high * 2 ^ m + low < 2 ^ (m + k)
+      fits =
+          let room = upper .fits in
+          let whole = mul-le-mul-right (2 ^ m) room in
+          let below = lower .fits in
+          rw (pow-add 2 m k) (omega (arith, whole, mul-comm (2 ^ m) (2 ^ k)))
+
+      members : (j : ℕ) → j < m + k → member (high * 2 ^ m + low) j ≡ test (first + j)
+      members j l =
+          by-bool (ltb j m) (λ t. member-low high m low j (lower .fits) (ltb-true j m t) ∙ lower .members j (ltb-true j m t))
+          (λ t. let past = ltb-false j m t in
+          let place : m + (j - m) ≡ j = omega arith in
+          let same-place : first + m + (j - m) ≡ first + j = omega arith in
+          (rw place at (member-high high m low (j - m) (lower .fits))) ∙ upper .members (j - m) (omega arith) ∙ ap test same-place)
+
+  -- Doubling a set moves its numbers up by one and leaves room for one more below.
+  pub moved-more : (first k s : ℕ) → Moved test (first + 1) k s → Moved test first (k + 1) (s + s + boolByte (test first))
+  moved-more first k s h =
+      let twice : s * 2 ^ 1 ≡ s + s = omega arith in
+      let more : 1 + k ≡ k + 1 = omega arith in
+      rw (twice, more) at (moved-join first 1 k (boolByte (test first)) s (moved-one first) h)
+
+  pub moved-fits : (first k s : ℕ) → k ≤ 64 → Moved test first k s → s < 2 ^ 64
+  moved-fits first k s l h =
+      let fits = h .fits in
+      let wider : 2 ^ k ≤ 2 ^ 64 = pow-mono {i = k} {j = 64} l in
       omega arith
 
-  pub last-more : (k s : ℕ) → k < 64 → Last test k s → Last test (k + 1) (s + s + boolByte (test (63 - k)))
-  last-more k s l h = record { fits = last-fits k s h (test (63 - k)); members = members }
-    where
-      first : (t : Bool) → member (s + s + boolByte t) 0 ≡ t
-      first t =
-          let d : (s + s + boolByte t) % 2 ≡ boolByte t = by-bool t (λ e. rw e (omega arith)) (λ e. rw e (omega arith)) in
-          sym (digit-test (member (s + s + boolByte t) 0))
-          ∙ ap (λ n. eqb n 1) (sym (lowest-digit (s + s + boolByte t)) ∙ d)
-          ∙ by-bool t (λ e. rw e) (λ e. rw e)
-
-      next : (t : Bool) (j : ℕ) → member (s + s + boolByte t) (suc j) ≡ member s j
-      next t j =
-          let half : (s + s + boolByte t) / 2 ≡ s = by-bool t (λ e. rw e (omega arith)) (λ e. rw e (omega arith)) in
-          member-suc (s + s + boolByte t) j ∙ ap (λ n. member n j) half
-
-      members : (j : ℕ) → j < k + 1 → member (s + s + boolByte (test (63 - k))) j ≡ test (64 - (k + 1) + j)
-      members zero lj = first (test (63 - k)) ∙ ap test (omega arith)
-      members (suc j) lj = next (test (63 - k)) j ∙ h .members j (omega arith) ∙ ap test (omega arith)
-
-  pub last-all : (s : ℕ) → Last test 64 s → s ≡ setOf 64 test
-  last-all s h =
-      same-members 64 s (setOf 64 test) (h .fits) (set-fits test 64)
-      (λ k l. let all : 64 - 64 + k ≡ k = omega arith in
-      h .members k l ∙ ap test all ∙ sym (set-members test 64 (omega arith) k ∙ rw (lt-ltb k 64 l)))
+  pub moved-all : (s : ℕ) → Moved test 0 64 s → s ≡ setOf 64 test
+  moved-all s h = same-members 64 s (setOf 64 test) (h .fits) (set-fits test 64) (λ k l. let place : 0 + k ≡ k = omega arith in
+      h .members k l ∙ ap test place ∙ sym (set-members test 64 (omega arith) k ∙ rw (lt-ltb k 64 l)))
 
 -- A set of numbers below 64 is a word of 64 bits.
 pub members-fit : (s : ℕ) → ((k : ℕ) → member s k ≡ true → k < 64) → s < 2 ^ 64

@@ -1,37 +1,23 @@
 -- On the arrays of a sound bench the steps are the steps of the rules: any step from its row and its change, and opens. Assumes nothing.
 use mathlib.Core.Path.{_≡_, refl, sym, _∙_, ap, subst}
-use mathlib.Core.Bool.{Bool}
 use mathlib.Core.List.{List, []}
 use mathlib.Core.Option.{Option, none, some}
 use Prim.Native.Nat.{ℕ, _<_}
 use native.Mathlib.Omega.{arith}
-use borrow.Author.Tests.{eqb-true, eqb-false, leb-false}
-use lib.Dec.{eqb, leb}
-use lib.ListN.{getD}
+use borrow.Author.Tests.{eqb-true, eqb-false}
+use lib.Dec.{eqb}
 use Rattle.rules.specs.Tests.{if_then_else_}
-use Rattle.rules.specs.Requests.{Request, openTop, openSub, commit}
-use Rattle.rules.specs.Answers.{row, rowBy, answerOf}
+use Rattle.rules.specs.Requests.{Request, openTop, openSub}
+use Rattle.rules.specs.Answers.{answerOf}
 use Rattle.rules.specs.ReadWrite.{readWrite}
 use Rattle.rules.specs.Frames.{framed}
 use Rattle.rules.proofs.Tests.{by-bool}
-use Rattle.tables.specs.Tree.{tree, treeShape}
-use Rattle.views.specs.Index.{KnowsChild}
-use Rattle.tables.proofs.States.{tree-running-byte}
 use Rattle.tables.proofs.InPlace.{refused-in-place, open-top-found, open-top-in-place, open-sub-found, open-sub-in-place}
 use Rattle.steps.specs.Arrays.{Arrays, lent, viewOf, SoundLists, SteppedTo}
-use Rattle.steps.specs.Rows.{commitRow, openAnswer}
+use Rattle.rows.specs.Rows.{openAnswer}
 use Rattle.steps.specs.Changes.{opened}
 use Rattle.steps.specs.Steps.{Took, Opened}
 use Rattle.steps.proofs.Steps.{with-owners}
-
--- The rows of a commit, where what is said of running children is so.
-pub commit-row-is : (parents states : List ℕ) (a : ℕ) (busy : Bool) → KnowsChild parents states a busy →
-    commitRow states busy a ≡ row (treeShape 64) (tree parents states) (commit a)
-unfolding rowBy
-commit-row-is parents states a busy knows =
-    by-bool (leb 64 a) (λ t. rw t)
-    (λ t. rw (t, tree-running-byte (getD states a 0))
-    (by-bool (eqb (getD states a 0) 1) (λ u. rw (u, ← knows (leb-false 64 a t) (eqb-true (getD states a 0) 1 u))) (λ u. rw u)))
 
 -- ---- any step
 

@@ -1,5 +1,5 @@
 -- The code, on any arrays:
--- Asking: rows and owners as the code finds them.
+-- Asking: the conflicting owners, as the code finds them.
 -- Clears: lists whose numbers got another byte or have gone.
 -- Gathered: the set of the numbers of which a test holds.
 -- Standing: all numbers that stand in sets.

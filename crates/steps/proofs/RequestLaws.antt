@@ -19,7 +19,7 @@ use Rattle.views.specs.Arrays.{freesBy}
 use Rattle.rules.specs.Frames.{framed}
 use Rattle.rules.proofs.Frames.{framed-ask}
 use Rattle.steps.specs.Arrays.{Arrays, readSets, writeSets, SoundLists, SteppedTo}
-use Rattle.steps.specs.Rows.{busyIn}
+use Rattle.rows.specs.Rows.{busyIn}
 use Rattle.steps.specs.Changes.{familyFreed}
 use Rattle.steps.specs.Steps.{Requested}
 use Rattle.steps.proofs.Gathered.{set-members}

@@ -1,15 +1,17 @@
 -- The arrays of a bench as the steps are lent them: the bytes of parents and states, and the words of the owners, first the read sets of the 128 instruments and
 -- then the write sets. Any lists will do; those of a sound bench have their lengths.
-use mathlib.Core.Bool.{Bool}
+use mathlib.Core.Bool.{Bool, true, false}
 use mathlib.Core.List.{List}
 use mathlib.Core.Option.{Option}
 use mathlib.Core.Path.{_≡_}
 use Prim.Native.Nat.{ℕ, _+_, _%_}
-use lib.ListN.{length, take, drop}
+use lib.ListN.{length, take, drop, getD}
+use Rattle.sets.specs.Sets.{union, meet}
 use Rattle.rules.specs.Tests.{if_then_else_}
 use Rattle.rules.specs.Bench as rules
 use Rattle.rules.specs.Requests.{Request}
 use Rattle.views.specs.View.{view}
+use Rattle.views.specs.Owners.{conflicting}
 use Rattle.views.specs.Arrays.{SoundArrays, Stepped}
 
 pub record Arrays : Type 0 where
@@ -31,6 +33,14 @@ writeSets owners = take 128 (drop 128 owners)
 -- where the read set of instrument i stands among the owners' words, and its write set
 abbrev pub placeOf : Bool → ℕ → ℕ
 placeOf isWrite i = if isWrite then 128 + i % 128 else i % 128
+
+-- the numbers in the sets of the modes that conflict with a read or a write of instrument i, where the owners' words are given
+abbrev pub conflictingAt : Bool → List ℕ → ℕ → ℕ
+conflictingAt isWrite owners i = conflicting isWrite (getD owners (placeOf false i) 0) (getD owners (placeOf true i) 0)
+
+-- one of the numbers stands in a set of instrument i
+abbrev pub standAt : List ℕ → ℕ → ℕ → Bool
+standAt owners numbers i = meet (union (getD owners (placeOf false i) 0) (getD owners (placeOf true i) 0)) numbers
 
 -- The arrays, read as a bench.
 abbrev pub viewOf : Arrays → rules.Bench

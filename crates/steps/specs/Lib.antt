@@ -1,4 +1,3 @@
 pub mod Arrays
-pub mod Rows
 pub mod Changes
 pub mod Steps

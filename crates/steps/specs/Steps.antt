@@ -4,8 +4,8 @@ use mathlib.Core.Path.{_≡_}
 use Prim.Native.Nat.{ℕ}
 use lib.Dec.{eqb, ltb}
 use Rattle.rules.specs.Tests.{if_then_else_}
-use Rattle.steps.specs.Arrays.{Arrays}
-use Rattle.steps.specs.Rows.{quietRow, askRow, busyIn, heldFor, conflictingAt, standAt, openAnswer, endAnswer}
+use Rattle.rows.specs.Rows.{quietRow, askRow, busyIn, heldFor, openAnswer, endAnswer}
+use Rattle.steps.specs.Arrays.{Arrays, conflictingAt, standAt}
 use Rattle.steps.specs.Changes.{familyFreed, groupIn, opened, asked, ended, quieted}
 
 -- A step has been taken: the answer is the row, and the arrays after it are the changed ones where it is 0, and else those before it.

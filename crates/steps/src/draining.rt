@@ -1,21 +1,21 @@
 // Numbers that drain: whether they stand in a set, their byte, the group of a head, and quiet, by which the group leaves the sets of an instrument and becomes free where it
 // stands in no set any more.
-use crate::ACTIONS;
-use crate::INSTRUMENTS;
 use crate::clear::put_bytes;
 use crate::words::leave;
 use crate::words::place;
 use crate::words::word_at;
 use marks::answers::ACCEPTED;
-use marks::answers::NO_SUCH_ACTION;
-use marks::answers::NO_SUCH_INSTRUMENT;
-use marks::answers::NOT_DRAINING;
 use marks::states::DRAINING;
 use marks::states::FREE;
+use rows::ACTIONS;
+use rows::quiet::quiet_row;
 ghost use mathlib.Core.List.{[]};
 ghost use mathlib.Core.Path.{_≡_};
-ghost use Rattle.steps.specs.Arrays.{lent};
-ghost use Rattle.steps.specs.Rows.{standAt, quietRow};
+ghost use Prim.Native.Nat.{ℕ, _+_, _≤_, _<_};
+ghost use lib.Dec.{eqb};
+ghost use lib.ListN.{getD};
+ghost use Rattle.sets.specs.Sets.{member};
+ghost use Rattle.steps.specs.Arrays.{lent, standAt};
 ghost use Rattle.steps.specs.Changes.{standIn, groupIn, abortedByte, released};
 ghost use Rattle.steps.specs.Steps.{Quieted};
 
@@ -36,40 +36,33 @@ pub fn aborted_byte(stands: bool, a: u32) -> u8
     FREE
 }
 
-// The numbers that drain under a; its remainder by 64 is meant. From the last number on: doubling a set moves its numbers up by one and leaves room for the next. Without
-// a branch, since nobody can guess who drains.
+// Of the eight numbers from `first` on those that have this byte, each moved down so that the first is 0. From the last number on: doubling a set moves its numbers up by one
+// and leaves room for the next. Without a branch, since nobody can guess who drains.
+fn eight(states: &[u8; 64], first: usize, byte: u8) -> u64
+    requires { ⌜ first ≤ 56 ⌝ }
+    ensures { λ r. ⌜ (r < 256) × ((j : ℕ) → j < 8 → member r j ≡ eqb (getD (now (states .entry)) (first + j) 0) byte) ⌝ }
+{
+    let mut part = 0u64;
+    for k in 0..8usize {
+        part = part + part + (states[first + 7 - k] == byte) as u64;
+    }
+    part
+}
+
+// The numbers that drain under a; its remainder by 64 is meant. Eight by eight: the compiler compares them all at once.
 pub fn group_of(states: &[u8; 64], a: u32) -> u64
     ensures { λ r. ⌜ r ≡ groupIn (now (states .entry)) a ⌝ }
 {
     let byte = DRAINING + (a % ACTIONS) as u8;
     let mut group = 0u64;
-    for k in 0..64usize {
-        group = group + group + (states[63 - k] == byte) as u64;
+    for k in 0..8usize {
+        group = group * 256 + eight(states, 56 - 8 * k, byte);
     }
     group
 }
 
-// The rows of `quiet a, i`, where `stands` says whether one of those that drain under a stands in a set of instrument i.
-pub fn quiet_row(states: &[u8; 64], stands: bool, a: u32, i: u32) -> u8
-    ensures { λ r. ⌜ r ≡ quietRow (now (states .entry)) «stands» a i ⌝ }
-{
-    if ACTIONS <= a {
-        return NO_SUCH_ACTION;
-    }
-    if INSTRUMENTS <= i {
-        return NO_SUCH_INSTRUMENT;
-    }
-    if states[a as usize] != DRAINING + a as u8 {
-        return NOT_DRAINING;
-    }
-    if !stands {
-        return NOT_DRAINING;
-    }
-    ACCEPTED
-}
-
 // Whether one of the numbers stands in a set of instrument i.
-pub(crate) fn stand_at(owners: &[u64], numbers: u64, i: u32) -> bool
+pub fn stand_at(owners: &[u64], numbers: u64, i: u32) -> bool
     ensures { λ r. ⌜ r ≡ standAt (now (owners .entry)) numbers i ⌝ }
 {
     let readers = word_at(owners, place(false, i));

@@ -1,17 +1,15 @@
 // Requests in place, on parents, states and one slice of owner sets: the read sets of the 128 instruments and then the write sets. No array is copied, and none is
 // tested.
-use crate::ACTIONS;
 use crate::clear::clear_words;
 use crate::clear::put_bytes;
 use crate::draining::aborted_byte;
 use crate::draining::quiet;
 use crate::draining::stand;
-use crate::rows::ask_row;
-use crate::rows::end_row;
-use crate::rows::open_row;
 use crate::words::join;
 use crate::words::place;
 use crate::words::word_at;
+use family::family_of;
+use heirs::owners::conflicting;
 use marks::answers::ACCEPTED;
 use marks::codes::ABORT;
 use marks::codes::COMMIT;
@@ -22,9 +20,11 @@ use marks::codes::WRITE;
 use marks::states::COMMITTED;
 use marks::states::FREE;
 use marks::states::RUNNING;
+use rows::ACTIONS;
+use rows::ask_row;
+use rows::end_row;
+use rows::open_row;
 use tree::children::running_child;
-use tree::family::family_of;
-use tree::owners::conflicting;
 ghost use mathlib.Core.List.{[]};
 ghost use mathlib.Core.Path.{_≡_};
 ghost use Prim.Native.Nat.{_%_};

@@ -2,10 +2,4 @@
 pub mod clear;
 pub mod draining;
 pub mod engine;
-pub mod rows;
 pub mod words;
-
-// How many action numbers there are, and how many instruments.
-pub const ACTIONS: u32 = 64;
-
-pub const INSTRUMENTS: u32 = 128;

@@ -1,5 +1,5 @@
 // The words of a lent slice of owner sets, whatever its length: the read sets of the 128 instruments and then the write sets.
-use crate::INSTRUMENTS;
+use rows::INSTRUMENTS;
 ghost use mathlib.Core.Path.{_≡_};
 ghost use lib.ListN.{getD};
 ghost use Rattle.steps.specs.Arrays.{placeOf};
@@ -7,7 +7,7 @@ ghost use Rattle.steps.specs.Changes.{joinedAt};
 ghost use Rattle.tables.specs.OneWord.{leftAt};
 
 // Where the read set of an instrument stands, and its write set.
-pub(crate) fn place(is_write: bool, i: u32) -> usize
+pub fn place(is_write: bool, i: u32) -> usize
     ensures { λ r. ⌜ r ≡ placeOf «is_write» i ⌝ }
 {
     let at = (i % INSTRUMENTS) as usize;
@@ -37,7 +37,7 @@ pub(crate) fn join(words: &mut [u64], at: usize, k: usize)
 }
 
 // The numbers that have gone leave the set at a place; past the end there is none.
-pub(crate) fn leave(words: &mut [u64], at: usize, gone: u64)
+pub fn leave(words: &mut [u64], at: usize, gone: u64)
     ensures { λ r. ⌜ now (words .exit) ≡ leftAt (now (words .entry)) at gone ⌝ }
 {
     if at < words.len() {

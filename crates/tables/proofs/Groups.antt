@@ -1,14 +1,13 @@
--- Groups that drain and their heads, by their bytes, and numbers that stand in sets, told by one test of each number. Assumes nothing.
+-- Groups that drain, by their bytes, and numbers that stand in sets, told by one test of each number. Assumes nothing.
 use mathlib.Core.Path.{_≡_, sym, _∙_, ap}
-use mathlib.Core.Bool.{Bool, true, false, _&&_, _||_, and-comm, or-false}
+use mathlib.Core.Bool.{Bool, true, false, _&&_}
 use mathlib.Core.List.{List}
-use Prim.Native.Nat.{ℕ, _+_, _-_, _<_, _≤_}
+use Prim.Native.Nat.{ℕ, _+_, _<_}
 use native.Mathlib.Omega.{arith}
-use borrow.Author.Tests.{ltb-false, leb-false, eqb-true, eq-eqb, ne-eqb}
-use lib.Dec.{eqb, leb, ltb}
+use borrow.Author.Tests.{ltb-false, ne-eqb}
+use lib.Dec.{eqb, ltb}
 use lib.ListN.{length, getD, List·getD-eq-default}
-use Rattle.sets.specs.Sets.{member, with}
-use Rattle.sets.proofs.Laws.{member-with}
+use Rattle.sets.specs.Sets.{member}
 use Rattle.rules.specs.Tests.{any}
 use Rattle.rules.specs.Bench.{Shape, Bench}
 use Rattle.rules.specs.Owners.{drainsUnder, standAt, standSomewhere}
@@ -17,7 +16,6 @@ use Rattle.rules.proofs.Facts.{somewhere-by}
 use Rattle.tables.specs.Table.{Layout, Table, view}
 use Rattle.tables.specs.Owners.{standsAt, TellsStanding}
 use Rattle.tables.specs.Steps.{Bounded}
-use Rattle.tables.specs.Soundness.{drainFits}
 use Rattle.tables.proofs.States.{under-byte}
 
 -- One of the numbers of which f holds is in one of the sets: it is in any of them.
@@ -107,32 +105,3 @@ group-word n states a group long members k =
     ∙ by-bool (ltb k n) (λ t. rw t)
     (λ t. let nothing : getD states k 0 ≡ 0 = List·getD-eq-default states 0 (rw long (ltb-false k n t)) in
     rw (t, ne-eqb (getD states k 0) (3 + a) (λ e. absurd (omega arith))))
-
--- ---- the heads of groups, as a set of numbers below n
-
--- a state's byte of 2 or less names no head
-pub no-head : (heads s h : ℕ) → s ≤ 2 → member heads h ≡ (member heads h || eqb s (3 + h))
-no-head heads s h low = rw (ne-eqb s (3 + h) (λ e. absurd (omega arith))) (sym (or-false (member heads h)))
-
--- and any other the number that is 3 less
-pub head-joined : (n heads s h : ℕ) → 2 < s → s < 3 + n → member (with n heads (s - 3)) h ≡ (member heads h || eqb s (3 + h))
-head-joined n heads s h high means =
-    member-with n heads (s - 3) h (omega arith)
-    ∙ ap (λ u. member heads h || u)
-    (same (eqb h (s - 3)) (eqb s (3 + h)) (λ t. let e = eqb-true h (s - 3) t in eq-eqb s (3 + h) (omega arith))
-    (λ t. let e = eqb-true s (3 + h) t in eq-eqb h (s - 3) (omega arith)))
-
--- Where `heads` are those of the groups of which a number stands in a set, the head that a number's byte names decides whether it drains as it should.
-pub head-decides : (n : ℕ) (states : List ℕ) (standing : ℕ → Bool) (heads : ℕ) →
-    ((h : ℕ) → member heads h ≡ any n (λ j. standing j && eqb (getD states j 0) (3 + h))) → (k : ℕ) →
-    let byte = getD states k 0 in (leb byte 2 || (member heads (byte - 3) && eqb (getD states (byte - 3) 0) byte)) ≡ drainFits n states standing k
-head-decides n states standing heads members k =
-    by-bool (leb (getD states k 0) 2) (λ low. rw low)
-    (λ high. rw high (drains (getD states k 0) (leb-false (getD states k 0) 2 high)))
-  where
-    drains : (byte : ℕ) → 2 < byte →
-        (member heads (byte - 3) && eqb (getD states (byte - 3) 0) byte) ≡ (eqb (getD states (byte - 3) 0) byte && any n (λ j. standing j && eqb (getD states j 0) byte))
-    drains byte high =
-        let back : 3 + (byte - 3) ≡ byte = omega arith in
-        let stood : member heads (byte - 3) ≡ any n (λ j. standing j && eqb (getD states j 0) byte) = rw back at (members (byte - 3)) in
-        rw stood (and-comm (any n (λ j. standing j && eqb (getD states j 0) byte)) (eqb (getD states (byte - 3) 0) byte))

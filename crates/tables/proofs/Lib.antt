@@ -1,7 +1,7 @@
 -- The view and what the requests do to it:
 -- States: what a state's byte says to the tests of the rules, in the table and in its tree.
 -- ViewLaws: what parents' bytes and sets say to the tests of the rules, what a sound bench says of its table and its tree, and what is granted.
--- Groups: groups that drain and their heads, by their bytes, and numbers that stand in sets.
+-- Groups: groups that drain, by their bytes, and numbers that stand in sets.
 -- Stores: how the stores of a request show in the view.
 -- OneWord: the same where each set is one word.
 -- Steps: how answers and next benches make a step.
@@ -21,10 +21,12 @@ pub mod InPlace
 pub mod SetsKept
 -- The soundness test:
 -- Bytes: the tables that parents' bytes are looked up in.
+-- Told: tables that tell of states' bytes whether numbers that stand in sets have them, and whether a number may.
 -- Climbs: chains of parents that end, found by climbs that stop at numbers known to end.
 -- Members: a test of all members of a set, or of some, taken member by member, and of those that two sets have in common.
 -- SoundParts: the parts of the soundness test make the whole.
 pub mod Bytes
+pub mod Told
 pub mod Climbs
 pub mod Members
 pub mod SoundParts

@@ -36,9 +36,10 @@ forbiddenUnder states p = shifted forbidsOf states p
 abbrev pub permitted : List ℕ → List ℕ → ℕ → Bool
 permitted parents states k = eqb (bitAnd (forbiddenUnder states (getD parents k 0)) (getD states k 0)) 0
 
--- Number k drains under a head that drains under itself, and one of its group stands in a set; `standing` tells of the numbers that do. A number that
--- doesn't drain has nothing to keep to.
+-- One of the numbers that stand in a set has this state's byte; `standing` tells of those that do.
+abbrev pub standsWith : ℕ → List ℕ → (ℕ → Bool) → ℕ → Bool
+standsWith n states standing byte = any n (λ j. standing j && eqb (getD states j 0) byte)
+
+-- Number k drains under a head that drains under itself, and one of its group stands in a set. A number that doesn't drain has nothing to keep to.
 abbrev pub drainFits : ℕ → List ℕ → (ℕ → Bool) → ℕ → Bool
-drainFits n states standing k =
-    let byte = getD states k 0 in
-    leb byte 2 || (eqb (getD states (byte - 3) 0) byte && any n (λ j. standing j && eqb (getD states j 0) byte))
+drainFits n states standing k = let byte = getD states k 0 in leb byte 2 || (eqb (getD states (byte - 3) 0) byte && standsWith n states standing byte)

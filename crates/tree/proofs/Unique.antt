@@ -1,17 +1,17 @@
--- The contracts that are not equations have one result each: a word of 64 bits is told by its members, and 64 words by their places. (Those of `all_held`,
--- `conflicting`, `running_child` and `has_child` are equations.) Assumes nothing.
-use mathlib.Core.Bool.{Bool, _&&_}
+-- The contracts that are not equations have one result each: a word of 64 bits is told by its members, and 64 words by their places. (Those of `running_child` and `has_child`
+-- are equations.) Assumes nothing.
+use mathlib.Core.Bool.{Bool}
 use mathlib.Core.List.{List}
 use mathlib.Core.Path.{_≡_, sym, _∙_}
 use Prim.Native.Nat.{ℕ, suc, _%_, _<_, _^_}
 use native.Mathlib.Omega.{arith}
-use lib.Dec.{eqb, ltb}
+use lib.Dec.{eqb}
 use lib.ListN.{length, getD}
 use lib.Seq.{ext-getD}
 use Rattle.sets.specs.Sets.{member}
 use Rattle.sets.proofs.Laws.{same-members}
 use Rattle.views.specs.Tree.{metFrom}
-use Rattle.views.specs.Reach.{ownsSet, descendsKnown, LinesMet}
+use Rattle.views.specs.Reach.{LinesMet}
 
 -- ---- one word
 
@@ -22,17 +22,9 @@ word-unique test r s fits fits' er es = same-members 64 r s fits fits' (λ k l. 
 pub line-unique : (parents : List ℕ) (a r s : ℕ) → r < 2 ^ 64 → s < 2 ^ 64 → ((k : ℕ) → member r k ≡ metFrom parents (a % 64) k) → ((k : ℕ) → member s k ≡ metFrom parents (a % 64) k) → r ≡ s
 line-unique parents a r s fits fits' er es = word-unique (metFrom parents (a % 64)) r s fits fits' (λ k l. er k) (λ k l. es k)
 
-pub family-unique : (parents : List ℕ) (a r s : ℕ) → r < 2 ^ 64 → s < 2 ^ 64 → ((k : ℕ) → member r k ≡ (ltb k 64 && descendsKnown parents (a % 64) k)) →
-    ((k : ℕ) → member s k ≡ (ltb k 64 && descendsKnown parents (a % 64) k)) → r ≡ s
-family-unique parents a r s fits fits' er es = word-unique (λ k. ltb k 64 && descendsKnown parents (a % 64) k) r s fits fits' (λ k l. er k) (λ k l. es k)
-
 pub running-unique : (states : List ℕ) (r s : ℕ) → r < 2 ^ 64 → s < 2 ^ 64 → ((k : ℕ) → k < 64 → member r k ≡ eqb (getD states k 0) 1) →
     ((k : ℕ) → k < 64 → member s k ≡ eqb (getD states k 0) 1) → r ≡ s
 running-unique states r s = word-unique (λ k. eqb (getD states k 0) 1) r s
-
-pub owners-unique : (parents states : List ℕ) (set r s : ℕ) → r < 2 ^ 64 → s < 2 ^ 64 → ((h : ℕ) → h < 64 → member r h ≡ ownsSet parents states set h) →
-    ((h : ℕ) → h < 64 → member s h ≡ ownsSet parents states set h) → r ≡ s
-owners-unique parents states set r s = word-unique (ownsSet parents states set) r s
 
 -- ---- 64 words
 

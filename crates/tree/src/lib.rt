@@ -2,9 +2,6 @@
 // after 64 steps, so that rings of parents end it too.
 pub mod children;
 pub mod each;
-pub mod family;
-pub mod held;
-pub mod owners;
 
 use marks::bytes::wide;
 ghost use mathlib.Core.Path.{_≡_};

@@ -1,3 +1,4 @@
 pub mod Asked
 pub mod Same
+pub mod Session
 pub mod Sums

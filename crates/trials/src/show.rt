@@ -1,8 +1,5 @@
-// What the test programs write: answers and facts as two hexadecimal digits, one space between, one line a session; and lines of counts that end with
-// a sum. Each function gives back what it wrote, or the bench that came with it.
+// What the test programs write beside answers: facts as two hexadecimal digits, and lines of counts that end with a sum. Each function gives back what it wrote.
 ghost use mathlib.Core.Path.{_≡_};
-use bench::Bench;
-use bench::Reply;
 
 // Writes a byte as two digits.
 fn digits(byte: u8) {
@@ -15,33 +12,6 @@ fn space() {
 
 fn line_end() {
     io::write_all(1, b"\n");
-}
-
-// Writes the first answer of a line and goes on with the bench that came with it.
-pub fn first(reply: Reply) -> Bench
-    ensures { λ r. ⌜ r ≡ reply .bench ⌝ }
-{
-    digits(reply.answer);
-    reply.bench
-}
-
-// Writes a further answer and goes on.
-pub fn then(reply: Reply) -> Bench
-    ensures { λ r. ⌜ r ≡ reply .bench ⌝ }
-{
-    space();
-    digits(reply.answer);
-    reply.bench
-}
-
-// Writes the last answer of a line.
-pub fn last(reply: Reply) -> Bench
-    ensures { λ r. ⌜ r ≡ reply .bench ⌝ }
-{
-    space();
-    digits(reply.answer);
-    line_end();
-    reply.bench
 }
 
 // Writes 01 where the fact holds and else 00, among the answers of a line.

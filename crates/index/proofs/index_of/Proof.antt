@@ -1,8 +1,13 @@
 -- `index_of` meets its contract: the sets of children and the lines are put one after the other, and the running numbers behind them. Assumes nothing.
-use Prim.Native.Nat.{ℕ}
+use mathlib.Core.Path.{_≡_, _∙_}
+use Prim.Native.Nat.{ℕ, _+_, _<_}
+use native.Mathlib.Omega.{arith}
 use borrow.Author.Needs.{needs}
-use lib.ListN.{replicate, length-replicate}
-use Rattle.index.proofs.IndexParts.{parts-put, running-put}
+use lib.ListN.{getD, set, replicate, length-replicate, getD-replicate}
+use lib.Seq.{getD-set-other}
+use Rattle.copies.specs.Copies.{wordsPut}
+use Rattle.index.specs.Places.{unknown}
+use Rattle.index.proofs.IndexParts.{parts-put, parts-behind, running-put}
 use Rattle.index.proofs.index_of.Statement.{statement}
 use Rattle.index.proofs.index_of.Tie as tie
 
@@ -42,15 +47,25 @@ returns c =
     let once = twice .before .before .before .before in
     let lines = once .before .before .before in
     let children = lines .before in
-    let parts = running-put
-    (parts-put (replicate 129 0) (children .children-in .result) (lines .lines-in .result) (length-replicate {A = ℕ} 129 0) (children .children-in .ensures .0) (lines .lines-in .ensures .0))
-    (c .running-in .result) in
+    let blank = replicate 257 unknown in
+    let blankLong = length-replicate {A = ℕ} 257 unknown in
+    let childrenLong = children .children-in .ensures .0 in
+    let linesLong = lines .lines-in .ensures .0 in
+    let parts = running-put (parts-put blank (children .children-in .result) (lines .lines-in .result) blankLong childrenLong linesLong) (c .running-in .result) in
+    let behind : (place : ℕ) → 128 < place → place < 257 →
+    getD (set (wordsPut (wordsPut blank 0 (children .children-in .result)) 64 (lines .lines-in .result)) 128 (c .running-in .result)) place 0 ≡ unknown =
+    λ place above below.
+    getD-set-other (wordsPut (wordsPut blank 0 (children .children-in .result)) 64 (lines .lines-in .result)) 128 place (c .running-in .result) 0 (λ e. absurd (omega arith))
+    ∙ parts-behind blank (children .children-in .result) (lines .lines-in .result) blankLong childrenLong linesLong place (omega arith)
+    ∙ getD-replicate {A = ℕ} 257 place unknown 0 below in
     rw (twice .put-words2 .ensures, once .put-words .ensures)
     (record {
       long = parts .long;
       ofChildren = rw (parts .ofChildren) (children .children-in .ensures .1);
       ofLines = rw (parts .ofLines) (lines .lines-in .ensures .1);
       ofRunning = rw (parts .ofRunning) (c .running-in .ensures);
+      ofGroups = λ k l. behind (129 + k) (omega arith) (omega arith);
+      ofPlaces = λ k l. behind (193 + k) (omega arith) (omega arith);
     })
 
 pub index-of-spec : {M : Type 1} → statement M

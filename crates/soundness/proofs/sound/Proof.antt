@@ -1,8 +1,12 @@
--- `sound` meets its contract: each part that fails makes the test fail, and where the others hold the last decides. Assumes nothing.
+-- `sound` meets its contract: each part that fails makes the test fail, and where the others hold the chains of parents decide. Assumes nothing.
 use borrow.Author.Needs.{needs}
 use borrow.Author.Tests.{not-true, not-false}
+use mathlib.Core.Bool.{and-true, and-false}
 use mathlib.Core.Path.{sym, _∙_}
+use Rattle.rules.specs.Sound.{reachesTop}
+use Rattle.rules.specs.Tests.{all}
 use Rattle.tables.proofs.SoundParts.{fits-known, fits-means}
+use Rattle.tables.specs.Tree.{upOf}
 use Rattle.soundness.proofs.sound.Statement.{statement}
 use Rattle.soundness.proofs.sound.Tie as tie
 
@@ -27,67 +31,48 @@ returns-2 c =
       not-true (c .before .parents-stand .result) (c .if2 .taken),
     )
 
-chains-end-requires : tie.Need-chains-end-requires
-chains-end-requires c κs =
+stand-well-requires : tie.Need-stand-well-requires
+stand-well-requires c κs =
     let fits = c .before .before in
     let start = fits .before .before in
-    fits-known 64 (start .args .parents .now) (start .args .states .now) (sym (fits .before .bytes-fit .ensures) ∙ not-false (fits .before .bytes-fit .result) (fits .if1 .left))
+    fits-means 64 (start .args .parents .now) (start .args .states .now) (sym (fits .before .bytes-fit .ensures) ∙ not-false (fits .before .bytes-fit .result) (fits .if1 .left))
 
 returns-3 : tie.Need-returns-3
 returns-3 c =
     let permits = c .before .before in
     let fits = permits .before .before in
+    let parents = fits .before .before .args .parents .now in
     rw (
       ← fits .before .bytes-fit .ensures,
       not-false (fits .before .bytes-fit .result) (fits .if1 .left),
       ← permits .before .parents-stand .ensures,
       not-false (permits .before .parents-stand .result) (permits .if2 .left),
-      ← c .before .chains-end .ensures,
-      not-true (c .before .chains-end .result) (c .if3 .taken),
+      ← c .before .stand-well .ensures,
+      not-true (c .before .stand-well .result) (c .if3 .taken),
     )
+    (sym (and-false (all 64 (reachesTop 63 (upOf parents)))))
 
-none-free-requires : tie.Need-none-free-requires
-none-free-requires c κs = search needs
+chains-end-requires : tie.Need-chains-end-requires
+chains-end-requires c κs =
+    let fits = c .before .before .before .before in
+    let start = fits .before .before in
+    fits-known 64 (start .args .parents .now) (start .args .states .now) (sym (fits .before .bytes-fit .ensures) ∙ not-false (fits .before .bytes-fit .result) (fits .if1 .left))
 
 returns-4 : tie.Need-returns-4
 returns-4 c =
-    let ends = c .before .before in
-    let permits = ends .before .before in
+    let stand = c .before in
+    let permits = stand .before .before in
     let fits = permits .before .before in
+    let parents = fits .before .before .args .parents .now in
     rw (
       ← fits .before .bytes-fit .ensures,
       not-false (fits .before .bytes-fit .result) (fits .if1 .left),
       ← permits .before .parents-stand .ensures,
       not-false (permits .before .parents-stand .result) (permits .if2 .left),
-      ← ends .before .chains-end .ensures,
-      not-false (ends .before .chains-end .result) (ends .if3 .left),
-      ← c .before .none-free .ensures,
-      not-true (c .before .none-free .result) (c .if4 .taken),
+      ← stand .before .stand-well .ensures,
+      not-false (stand .before .stand-well .result) (stand .if3 .left),
     )
-
-drains-well-requires : tie.Need-drains-well-requires
-drains-well-requires c κs =
-    let fits = c .before .before .before .before .before .before in
-    let start = fits .before .before in
-    fits-means 64 (start .args .parents .now) (start .args .states .now) (sym (fits .before .bytes-fit .ensures) ∙ not-false (fits .before .bytes-fit .result) (fits .if1 .left))
-
-returns-5 : tie.Need-returns-5
-returns-5 c =
-    let used = c .before in
-    let ends = used .before .before in
-    let permits = ends .before .before in
-    let fits = permits .before .before in
-    rw (
-      ← fits .before .bytes-fit .ensures,
-      not-false (fits .before .bytes-fit .result) (fits .if1 .left),
-      ← permits .before .parents-stand .ensures,
-      not-false (permits .before .parents-stand .result) (permits .if2 .left),
-      ← ends .before .chains-end .ensures,
-      not-false (ends .before .chains-end .result) (ends .if3 .left),
-      ← used .before .none-free .ensures,
-      not-false (used .before .none-free .result) (used .if4 .left),
-    )
-    (c .drains-well .ensures)
+    (c .chains-end .ensures ∙ sym (and-true (all 64 (reachesTop 63 (upOf parents)))))
 
 pub sound-spec : {M : Type 1} → statement M
 sound-spec =
@@ -97,9 +82,7 @@ sound-spec =
     returns
     parents-stand-requires
     returns-2
-    chains-end-requires
+    stand-well-requires
     returns-3
-    none-free-requires
-    returns-4
-    drains-well-requires
-    returns-5)
+    chains-end-requires
+    returns-4)

@@ -1,6 +1,6 @@
 -- `open_indexed` meets its contract: the step is that of `open`; a refusal leaves the index as it was. Assumes nothing.
-use borrow.Author.Needs.{needs}
 use borrow.Author.Tests.{eq-eqb, ne-eqb}
+use borrow.Author.Needs.{needs}
 use Rattle.index.proofs.requests.open_indexed.Statement.{statement}
 use Rattle.index.proofs.requests.open_indexed.Tie as tie
 
@@ -28,9 +28,6 @@ mul-index c = search needs
 element-write-index-2 : tie.Need-element-write-index-2
 element-write-index-2 c = search needs
 
-with-requires-2 : tie.Need-with-requires-2
-with-requires-2 c κs = search needs
-
 add-index : tie.Need-add-index
 add-index c = search needs
 
@@ -39,6 +36,18 @@ mul-index-2 c = search needs
 
 element-write-index-3 : tie.Need-element-write-index-3
 element-write-index-3 c = search needs
+
+with-requires-2 : tie.Need-with-requires-2
+with-requires-2 c κs = search needs
+
+add-index-2 : tie.Need-add-index-2
+add-index-2 c = search needs
+
+mul-index-3 : tie.Need-mul-index-3
+mul-index-3 c = search needs
+
+element-write-index-4 : tie.Need-element-write-index-4
+element-write-index-4 c = search needs
 
 returns-2 : tie.Need-returns-2
 returns-2 c =
@@ -59,11 +68,11 @@ element-copy-out-with-2 c = search needs
 with-requires-3 : tie.Need-with-requires-3
 with-requires-3 c κs = search needs
 
-mul-index-3 : tie.Need-mul-index-3
-mul-index-3 c = search needs
+mul-index-4 : tie.Need-mul-index-4
+mul-index-4 c = search needs
 
-element-write-index-4 : tie.Need-element-write-index-4
-element-write-index-4 c = search needs
+element-write-index-5 : tie.Need-element-write-index-5
+element-write-index-5 c = search needs
 
 add-with : tie.Need-add-with
 add-with c = search needs
@@ -77,14 +86,14 @@ element-copy-out-with-3 c = search needs
 with-requires-4 : tie.Need-with-requires-4
 with-requires-4 c κs = search needs
 
-add-index-2 : tie.Need-add-index-2
-add-index-2 c = search needs
+add-index-3 : tie.Need-add-index-3
+add-index-3 c = search needs
 
-mul-index-4 : tie.Need-mul-index-4
-mul-index-4 c = search needs
+mul-index-5 : tie.Need-mul-index-5
+mul-index-5 c = search needs
 
-element-write-index-5 : tie.Need-element-write-index-5
-element-write-index-5 c = search needs
+element-write-index-6 : tie.Need-element-write-index-6
+element-write-index-6 c = search needs
 
 returns-3 : tie.Need-returns-3
 returns-3 c =
@@ -106,22 +115,25 @@ open-indexed-spec =
     element-write-index
     mul-index
     element-write-index-2
-    with-requires-2
     add-index
     mul-index-2
     element-write-index-3
+    with-requires-2
+    add-index-2
+    mul-index-3
+    element-write-index-4
     returns-2
     cast-p
     mul-with
     element-copy-out-with-2
     with-requires-3
-    mul-index-3
-    element-write-index-4
+    mul-index-4
+    element-write-index-5
     add-with
     mul-with-2
     element-copy-out-with-3
     with-requires-4
-    add-index-2
-    mul-index-4
-    element-write-index-5
+    add-index-3
+    mul-index-5
+    element-write-index-6
     returns-3)

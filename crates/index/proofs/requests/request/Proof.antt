@@ -1,9 +1,9 @@
 -- `request` meets its contract: codes 3 and 4 ask, those below open, 7 is quiet, and the rest end an action or are malformed. Assumes nothing.
 use mathlib.Core.Path.{refl}
 use Prim.Native.Nat.{_^_, _<_}
-use borrow.Author.Needs.{needs}
 use Rattle.index.specs.Tables.{Table, table, runningSet}
 use Rattle.index.proofs.Kept.{kept-ask, kept-open, kept-quiet, kept-end}
+use borrow.Author.Needs.{needs}
 use Rattle.index.proofs.requests.request.Statement.{statement}
 use Rattle.index.proofs.requests.request.Tie as tie
 
@@ -30,17 +30,8 @@ before s = table (s .args .parents .now) (s .args .states .now) (s .args .owners
 fits : (c : tie.After-running) → runningSet (c .before .before .before .args .index .now) < 2 ^ 64
 fits c = rw (← c .running .ensures) (search (needs, c .running .ok))
 
-add-ask : tie.Need-add-ask
-add-ask c = search needs
-
-mul-ask : tie.Need-mul-ask
-mul-ask c = search needs
-
-element-copy-out-ask : tie.Need-element-copy-out-ask
-element-copy-out-ask c = search needs
-
-ask-requires : tie.Need-ask-requires
-ask-requires c κs = search needs
+ask-indexed-requires : tie.Need-ask-indexed-requires
+ask-indexed-requires c κs = search needs
 
 returns : tie.Need-returns
 returns c =
@@ -48,8 +39,9 @@ returns c =
     let met = asks .before in
     let s = met .before .before .before .before in
     let a = s .args in
-    let after = table (a .parents .now) (a .states .now) (c .ask .last .1 .1 .0) (a .index .now) in
-    kept-ask {before = before s} {after = after} (a .code) (a .x) (a .y) (fits (met .before)) (asks .if1 .taken) (rw (met .meet .ensures, met .before .running .ensures) at (c .ask .ensures)) (refl {a = a .index .now})
+    let last = c .ask-indexed .last in
+    let after = table (last .0) (last .1 .0) (last .1 .1 .0) (last .1 .1 .1 .0) in
+    kept-ask {before = before s} {after = after} (a .code) (a .x) (a .y) (fits (met .before)) (asks .if1 .taken) (rw (met .meet .ensures, met .before .running .ensures) at (c .ask-indexed .ensures .0)) (c .ask-indexed .ensures .1)
 
 open-indexed-requires : tie.Need-open-indexed-requires
 open-indexed-requires c κs = search needs
@@ -63,17 +55,18 @@ returns-2 c =
     let after = table (c .open-indexed .last .0) (c .open-indexed .last .1 .0) (a .owners .now) (c .open-indexed .last .1 .1 .0) in
     kept-open {before = before s} {after = after} (a .code) (a .x) (a .y) (fits (met .before)) (opens .before .if1 .left) (opens .if2 .taken) (c .open-indexed .ensures .0) refl (c .open-indexed .ensures .1)
 
-quiet-requires : tie.Need-quiet-requires
-quiet-requires c κs = search needs
+quiet-indexed-requires : tie.Need-quiet-indexed-requires
+quiet-indexed-requires c κs = search needs
 
 returns-3 : tie.Need-returns-3
 returns-3 c =
-    let quiets = c .before .before .before in
+    let quiets = c .before .before .before .before in
     let met = quiets .before .before .before in
     let s = met .before .before .before .before in
     let a = s .args in
-    let after = table (a .parents .now) (c .quiet .last .0) (c .quiet .last .1 .0) (a .index .now) in
-    kept-quiet {before = before s} {after = after} (a .code) (a .x) (a .y) (fits (met .before)) (quiets .if3 .taken) (c .quiet .ensures) refl refl
+    let last = c .quiet-indexed .last in
+    let after = table (a .parents .now) (last .0) (last .1 .0) (last .1 .1 .0) in
+    kept-quiet {before = before s} {after = after} (a .code) (a .x) (a .y) (fits (met .before)) (quiets .if3 .taken) (c .quiet-indexed .ensures) refl
 
 end-indexed-requires : tie.Need-end-indexed-requires
 end-indexed-requires c κs = search needs
@@ -97,14 +90,11 @@ request-spec =
     element-copy-out-meet
     running-requires
     meet-requires
-    add-ask
-    mul-ask
-    element-copy-out-ask
-    ask-requires
+    ask-indexed-requires
     returns
     open-indexed-requires
     returns-2
-    quiet-requires
+    quiet-indexed-requires
     returns-3
     end-indexed-requires
     returns-4)

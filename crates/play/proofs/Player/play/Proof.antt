@@ -7,15 +7,11 @@ use native.Mathlib.Omega.{arith}
 use borrow.Author.Needs.{needs}
 use lib.ListN.{length}
 use Rattle.rules.proofs.Tests.{clash}
-use Rattle.tables.specs.Tree.{tree}
-use Rattle.tables.proofs.ViewLaws.{tree-sound}
-use Rattle.views.specs.Tree.{SoundTree}
 use Rattle.views.proofs.Words.{arrays-long}
-use Rattle.views.specs.View.{arrays, layout}
 use Rattle.lines.proofs.FeedLaws.{fed-long, taken-by-long, taken-by-fits}
 use Rattle.copies.proofs.CopyLaws.{all-taken}
-use Rattle.index.specs.Tables.{IndexOf}
-use Rattle.index.proofs.Making.{made-indexed}
+use Rattle.index.specs.Tables.{table, IndexIn}
+use Rattle.index.proofs.Making.{made-table}
 use Rattle.play.specs.Feeding.{widthBy}
 use Rattle.play.proofs.PlayerFeeding.{fed-as, say-short}
 use Rattle.play.proofs.Player.play.Statement.{statement}
@@ -61,14 +57,14 @@ slice-aggregate-feed-bytes c =
 
 -- the index is that of the bench where it is sound
 indexed : (c : tie.Joined1) → let tested = c .before .before .before .before in let b = begun tested .args .self .bench in
-    tested .sound .result ≡ true → IndexOf (tree (b .parents) (b .states)) (c .if1 .index)
+    tested .sound .result ≡ true → IndexIn (table (b .parents) (b .states) (c .before .owners-of .result) (c .if1 .index))
 indexed c is-sound =
     let tested = c .before .before .before .before in
     let b = begun tested .args .self .bench in
-    let tree-is-sound : SoundTree (b .parents) (b .states) =
-    tree-sound layout (arrays (b .parents) (b .states) (b .reads) (b .writes)) (rw (tested .sound .ensures) at is-sound) in
-    ⊎-elim {C = IndexOf (tree (b .parents) (b .states)) (c .if1 .index)} (λ w. rw (w .4) (made-indexed tree-is-sound (w .3 .ensures)))
-    (λ w. clash {P = IndexOf (tree (b .parents) (b .states)) (c .if1 .index)} (tested .sound .result) is-sound (w .0 .left))
+    let owners = c .before .owners-of .result in
+    ⊎-elim {C = IndexIn (table (b .parents) (b .states) owners (c .if1 .index))}
+    (λ w. rw (w .4) (made-table (b .reads) (b .writes) owners (rw (tested .sound .ensures) at is-sound) (w .3 .ensures)))
+    (λ w. clash {P = IndexIn (table (b .parents) (b .states) owners (c .if1 .index))} (tested .sound .result) is-sound (w .0 .left))
     (c .if1 .came)
 
 feed-bytes-requires : tie.Need-feed-bytes-requires

@@ -1,15 +1,15 @@
--- `group_of` meets its contract. The loop's invariant: of the last numbers, the set has those whose byte names the head. The measure is what is left of the numbers.
+-- `group_of` meets its contract. The loop's invariant: of the last numbers, the set has those whose byte names the head. The measure is what is left of the eights.
 -- Assumes nothing.
-use Prim.Native.Nat.{ℕ, _≤_, _<_, _+_, _-_, _%_, _^_}
+use Prim.Native.Nat.{ℕ, _≤_, _+_, _-_, _*_, _%_, _^_}
 use mathlib.Core.Path.{_≡_, refl}
-use mathlib.Core.Bool.{Bool, false}
+use mathlib.Core.Bool.{Bool}
 use mathlib.Core.List.{List}
-use mir.Val.{boolByte}
 use native.Mathlib.Omega.{arith}
 use borrow.Author.Needs.{needs}
 use lib.Dec.{eqb}
 use lib.ListN.{getD}
-use Rattle.steps.proofs.Gathered.{Last, last-none, last-room, last-more, last-all}
+use lib.Pow.{pow-mono}
+use Rattle.steps.proofs.Gathered.{Moved, moved-none, moved-join, moved-fits, moved-all}
 use Rattle.steps.proofs.draining.group_of.Statement.{statement}
 use Rattle.steps.proofs.draining.group_of.Tie as tie
 
@@ -18,10 +18,10 @@ abbrev drains : List ℕ → ℕ → ℕ → Bool
 drains states a k = eqb (getD states k 0) (3 + a % 64)
 
 abbrev Inv-loop : tie.InvT-loop
-Inv-loop states a byte group₀ k₀ group k = (k ≤ 64) × (byte ≡ 3 + a % 64) × Last (drains states a) k group
+Inv-loop states a byte group₀ k₀ group k = (k ≤ 8) × (byte ≡ 3 + a % 64) × Moved (drains states a) (64 - 8 * k) (8 * k) group
 
 abbrev μ-loop : tie.MeasureT-loop
-μ-loop states a byte group₀ k₀ group k = 64 - k
+μ-loop states a byte group₀ k₀ group k = 8 - k
 
 cast-byte : tie.Need-cast-byte Inv-loop μ-loop
 cast-byte c = search needs
@@ -30,30 +30,45 @@ add-byte : tie.Need-add-byte Inv-loop μ-loop
 add-byte c = search needs
 
 loop-holds : tie.Need-loop-holds Inv-loop μ-loop
-loop-holds c = (search needs, refl, last-none (drains (c .args .states .now) (c .args .a)))
+loop-holds c = (search needs, refl, moved-none (drains (c .args .states .now) (c .args .a)) 64)
 
--- the set of a turn has room for one number more
-room : (c : tie.In-loop Inv-loop μ-loop) (t : Bool) → c .before .loop .group + c .before .loop .group + boolByte t < 2 ^ 64
-room c t =
+mul-group : tie.Need-mul-group Inv-loop μ-loop
+mul-group c =
     let at = c .before in
-    last-room (drains (at .before .args .states .now) (at .before .args .a)) (at .loop .k) (at .loop .group) (search needs) (at .loop .inv .2) t
+    let fits = at .loop .inv .2 .fits in
+    let few : 2 ^ (8 * at .loop .k) ≤ 2 ^ 56 = pow-mono {i = 8 * at .loop .k} {j = 56} (omega arith) in
+    omega arith
+
+mul-eight : tie.Need-mul-eight Inv-loop μ-loop
+mul-eight c = search needs
+
+sub-eight : tie.Need-sub-eight Inv-loop μ-loop
+sub-eight c = search needs
+
+eight-requires : tie.Need-eight-requires Inv-loop μ-loop
+eight-requires c κs = search needs
+
+-- the set of a turn, with the next eight numbers
+more : (c : tie.After-eight Inv-loop μ-loop) →
+    let at = c .before .before in
+    let args = at .before .args in
+    let k = at .loop .k in
+    Moved (drains (args .states .now) (args .a)) (64 - 8 * (k + 1)) (8 * (k + 1)) (at .loop .group * 256 + c .eight .result)
+more c =
+    let at = c .before .before in
+    let args = at .before .args in
+    let k = at .loop .k in
+    let place : 64 - 8 * k ≡ 56 - 8 * k + 8 = omega arith in
+    let first : 56 - 8 * k ≡ 64 - 8 * (k + 1) = omega arith in
+    let many : 8 + 8 * k ≡ 8 * (k + 1) = omega arith in
+    let lower : Moved (drains (args .states .now) (args .a)) (56 - 8 * k) 8 (c .eight .result) = record { fits = c .eight .ensures .0; members = c .eight .ensures .1 } in
+    rw (first, many) at (moved-join (drains (args .states .now) (args .a)) (56 - 8 * k) 8 (8 * k) (c .eight .result) (at .loop .group) lower (rw place at (at .loop .inv .2)))
 
 add-group : tie.Need-add-group Inv-loop μ-loop
-add-group c = let fits = room c false in omega arith
-
-sub-group : tie.Need-sub-group Inv-loop μ-loop
-sub-group c = search needs
-
-element-copy-out-group : tie.Need-element-copy-out-group Inv-loop μ-loop
-element-copy-out-group c = search needs
-
-cast-group : tie.Need-cast-group Inv-loop μ-loop
-cast-group c = search needs
-
-add-group-2 : tie.Need-add-group-2 Inv-loop μ-loop
-add-group-2 c =
-    let args = c .before .before .before .args in
-    let fits = room (c .before) (drains (args .states .now) (args .a) (63 - c .before .before .loop .k)) in
+add-group c =
+    let at = c .before .before in
+    let args = at .before .args in
+    let fits = moved-fits (drains (args .states .now) (args .a)) (64 - 8 * (at .loop .k + 1)) (8 * (at .loop .k + 1)) _ (omega arith) (more c) in
     omega arith
 
 add-k : tie.Need-add-k Inv-loop μ-loop
@@ -63,16 +78,13 @@ loop-less : tie.Need-loop-less Inv-loop μ-loop
 loop-less c = search needs
 
 loop-again : tie.Need-loop-again Inv-loop μ-loop
-loop-again c =
-    let at = c .before .before in
-    let args = at .before .args in
-    (search needs, at .loop .inv .1, last-more (drains (args .states .now) (args .a)) (at .loop .k) (at .loop .group) (search needs) (at .loop .inv .2))
+loop-again c = (search needs, c .before .before .loop .inv .1, more c)
 
 returns : tie.Need-returns Inv-loop μ-loop
 returns c =
     let at = c .before in
-    let e : at .loop .k ≡ 64 = omega arith in
-    last-all (drains (at .before .args .states .now) (at .before .args .a)) (at .loop .group) (rw e at (at .loop .inv .2))
+    let e : at .loop .k ≡ 8 = omega arith in
+    moved-all (drains (at .before .args .states .now) (at .before .args .a)) (at .loop .group) (rw e at (at .loop .inv .2))
 
 pub group-of-spec : {M : Type 1} → statement M
 group-of-spec =
@@ -83,11 +95,11 @@ group-of-spec =
     cast-byte
     add-byte
     loop-holds
+    mul-group
+    mul-eight
+    sub-eight
+    eight-requires
     add-group
-    sub-group
-    element-copy-out-group
-    cast-group
-    add-group-2
     add-k
     loop-less
     loop-again

@@ -5,8 +5,8 @@ use mathlib.Core.List.{[]}
 use Prim.Native.Nat.{ℕ}
 use borrow.Author.Needs.{needs}
 use borrow.Author.Tests.{ne-eqb}
-use Rattle.steps.specs.Arrays.{lent}
-use Rattle.steps.specs.Rows.{quietRow, standAt}
+use Rattle.rows.specs.Rows.{quietRow}
+use Rattle.steps.specs.Arrays.{lent, standAt}
 use Rattle.steps.specs.Steps.{quietAnswer}
 use Rattle.steps.proofs.draining.quiet.Statement.{statement}
 use Rattle.steps.proofs.draining.quiet.Tie as tie

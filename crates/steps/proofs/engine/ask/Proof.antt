@@ -4,7 +4,7 @@ use Prim.Native.Nat.{ℕ}
 use borrow.Author.Needs.{needs}
 use borrow.Author.Tests.{ne-eqb}
 use Rattle.steps.specs.Arrays.{lent}
-use Rattle.steps.specs.Rows.{askRow, heldFor}
+use Rattle.rows.specs.Rows.{askRow, heldFor}
 use Rattle.steps.specs.Steps.{askAnswer}
 use Rattle.steps.proofs.Asking.{conflicting-found}
 use Rattle.steps.proofs.Steps.{same-lent}

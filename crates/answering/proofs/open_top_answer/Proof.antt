@@ -1,0 +1,33 @@
+-- `open_top_answer` meets its contract: 7 where the soundness test fails, and else the row. Assumes nothing.
+use mathlib.Core.Path.{_∙_}
+use borrow.Author.Needs.{needs}
+use Rattle.rules.specs.Requests.{openTop}
+use Rattle.rules.specs.Answers.{rowBy}
+use Rattle.views.specs.View.{view}
+use Rattle.rules.specs.ReadWrite.{readWrite}
+use Rattle.tables.proofs.Steps.{answer-unsound, answer-sound}
+use Rattle.answering.proofs.open_top_answer.Statement.{statement}
+use Rattle.answering.proofs.open_top_answer.Tie as tie
+
+sound-requires : tie.Need-sound-requires
+sound-requires c κs = search needs
+
+returns : tie.Need-returns
+returns c =
+    let args = c .before .before .args in
+    answer-unsound readWrite (view (args .parents .now) (args .states .now) (args .reads .now) (args .writes .now))
+    (openTop (args .n)) (c .before .sound .result) (c .before .sound .ensures) (c .if1 .taken)
+
+open-top-row-requires : tie.Need-open-top-row-requires
+open-top-row-requires c κs = search needs
+
+returns-2 : tie.Need-returns-2
+unfolding rowBy
+returns-2 c =
+    let sound = c .before .before .sound in
+    let args = c .before .before .before .args in
+    c .open-top-row .ensures ∙ answer-sound readWrite (view (args .parents .now) (args .states .now) (args .reads .now) (args .writes .now))
+    (openTop (args .n)) (sound .result) (sound .ensures) (c .before .if1 .left)
+
+pub open-top-answer-spec : {M : Type 1} → statement M
+open-top-answer-spec = tie.close (tie.spec sound-requires returns open-top-row-requires returns-2)

@@ -1,0 +1,2 @@
+-- Unique: each contract has one result.
+pub mod Unique
