@@ -17,13 +17,14 @@
 #include <stdint.h>
 
 /* This header's version, major * 65536 + minor * 256 + patch. The archive's is dikothelm_version(); the two belong together where they are equal. */
-#define DIKOTHELM_VERSION 0x000300 /* 0.3.0 */
+#define DIKOTHELM_VERSION 0x000400 /* 0.4.0 */
 
 #define DIKOTHELM_ACTIONS 64        /* action numbers are 0 to 63 */
 #define DIKOTHELM_INSTRUMENTS 128   /* instruments are 0 to 127 */
 #define DIKOTHELM_LONGEST_TEXT 5312 /* a saved bench has at most so many bytes */
+#define DIKOTHELM_LONGEST_LIST 32   /* a list of requests has at most so many */
 
-/* Where several answers apply, 7 comes first and then the lowest. (A line or a text: 8 first.) */
+/* Where several answers apply, 7 comes first and then the lowest. (A line, a text, a kind in a list: 8 first. A list: 11 first.) */
 enum dikothelm_answer {
     DIKOTHELM_ACCEPTED = 0,           /* done */
     DIKOTHELM_NO_SUCH_ACTION = 1,     /* an action number is above 63 */
@@ -33,9 +34,21 @@ enum dikothelm_answer {
     DIKOTHELM_RUNNING_CHILD = 5,      /* the acting number has a running child */
     DIKOTHELM_NOT_GRANTED = 6,        /* an owner in a conflicting mode is neither the asker nor an ancestor of it */
     DIKOTHELM_UNSOUND = 7,            /* the record isn't sound, or has another length */
-    DIKOTHELM_MALFORMED = 8,          /* the line or the saved text is malformed */
+    DIKOTHELM_MALFORMED = 8,          /* the line or the saved text is malformed, or no request has the kind */
     DIKOTHELM_NO_ROOM = 9,            /* the buffer is shorter than the text */
-    DIKOTHELM_NOT_DRAINING = 10       /* the number isn't an aborted action that drains, or nothing of it drains at the instrument */
+    DIKOTHELM_NOT_DRAINING = 10,      /* the number isn't an aborted action that drains, or nothing of it drains at the instrument */
+    DIKOTHELM_TOO_LONG = 11           /* the list has more than 32 requests */
+};
+
+/* The kinds of requests in a list, with what x and y are. A number that isn't named is spare, and may be anything. */
+enum dikothelm_kind {
+    DIKOTHELM_OPEN_TOP = 1, /* x: n */
+    DIKOTHELM_OPEN_SUB = 2, /* x: n, y: p */
+    DIKOTHELM_READ = 3,     /* x: a, y: i */
+    DIKOTHELM_WRITE = 4,    /* x: a, y: i */
+    DIKOTHELM_COMMIT = 5,   /* x: a */
+    DIKOTHELM_ABORT = 6,    /* x: a */
+    DIKOTHELM_QUIET = 7     /* x: a, y: i */
 };
 
 enum dikothelm_action_state { DIKOTHELM_FREE = 0, DIKOTHELM_RUNNING = 1, DIKOTHELM_COMMITTED = 2, DIKOTHELM_DRAINING = 3 };
@@ -95,6 +108,12 @@ uint8_t dikothelm_image_abort(uint8_t *actions, size_t actions_length, uint64_t 
 /* Instrument i is quiet for the aborted action a: all numbers that drain under a leave its sets, and become free when none of them is left in any set. 7; 1: a
    above 63; 2: i above 127; 10: a doesn't drain under itself, or none that drains under it is in the sets of i. */
 uint8_t dikothelm_image_quiet(uint8_t *actions, size_t actions_length, uint64_t *owners, size_t owners_length, uint32_t a, uint32_t i);
+
+/* Plays a list of requests in their order, and tests the record once for all of them. A request is four words: its kind (enum dikothelm_kind), x, y and the
+   place for its answer, where the call puts what the single call would have answered. A refused request doesn't stop the rest. A kind that isn't 1 to 7 gets 8
+   at its place, and on an unsound record every other gets 7. Nothing but the answers changes in words; up to three words behind the last whole request are
+   none. 0; 11: more than 32 requests; 7: a record of another length. Whatever the answer but 0, nothing is played. */
+uint8_t dikothelm_image_list(uint8_t *actions, size_t actions_length, uint64_t *owners, size_t owners_length, uint32_t *words, size_t words_length);
 
 /* How many bytes the bench's text has, put into count. 0; 7, with count 0. */
 uint8_t dikothelm_image_text_size(const uint8_t *actions, size_t actions_length, const uint64_t *owners, size_t owners_length, size_t *count);
@@ -177,6 +196,18 @@ static inline enum dikothelm_answer dikothelm_abort(dikothelm_bench *bench, uint
 /* 0, 1, 2, 7 or 10. */
 static inline enum dikothelm_answer dikothelm_quiet(dikothelm_bench *bench, uint32_t a, uint32_t i) {
     return (enum dikothelm_answer)dikothelm_image_quiet(DIKOTHELM_IMAGE_(bench), a, i);
+}
+
+/* A request of a list, four words: its kind (enum dikothelm_kind), two numbers, and the place for its answer (enum dikothelm_answer). */
+typedef struct dikothelm_request {
+    uint32_t kind, x, y, answer;
+} dikothelm_request;
+
+/* 0 or 11. In the answers' places: 0 to 8 or 10. */
+static inline enum dikothelm_answer dikothelm_list(dikothelm_bench *bench, dikothelm_request *list, size_t count) {
+    /* of a list that is too long only so much is said */
+    const size_t said = count > DIKOTHELM_LONGEST_LIST ? (size_t)DIKOTHELM_LONGEST_LIST + 1 : count;
+    return (enum dikothelm_answer)dikothelm_image_list(DIKOTHELM_IMAGE_(bench), (uint32_t *)(void *)list, 4 * said);
 }
 
 /* 0 or 7. */
@@ -273,6 +304,7 @@ static inline const char *dikothelm_says(enum dikothelm_answer answer) {
     case DIKOTHELM_MALFORMED: return "malformed";
     case DIKOTHELM_NO_ROOM: return "the buffer is too short";
     case DIKOTHELM_NOT_DRAINING: return "it isn't an aborted action that drains there";
+    case DIKOTHELM_TOO_LONG: return "the list is too long";
     }
     return "no answer of the table";
 }

@@ -1,5 +1,5 @@
 /* The header's functions, in C and in C++: the whole case, draining, what only looks at a bench, saving, playing and ending the input at their edges, lines
-   that look right and aren't, records of other lengths, and NULL with length 0. */
+   that look right and aren't, lists beside single calls, records of other lengths, and NULL with length 0. */
 #include "dikothelm.h"
 #include "dikothelm.h" /* twice does no harm */
 
@@ -102,10 +102,12 @@ static void draining(void) {
 static void numbers_at_the_edges(void) {
     dikothelm_bench bench;
     dikothelm_empty(&bench);
-    SAME(dikothelm_version(), 768);
-    SAME(DIKOTHELM_VERSION, 768);
+    SAME(dikothelm_version(), 1024);
+    SAME(DIKOTHELM_VERSION, 1024);
     SAME(DIKOTHELM_ACTIONS, 64);
     SAME(DIKOTHELM_INSTRUMENTS, 128);
+    SAME(DIKOTHELM_LONGEST_LIST, 32);
+    SAME(sizeof(dikothelm_request), 16);
     SAME(sizeof bench, 128 + 256 * 8);
     SAME(dikothelm_open_top(&bench, 63), 0);
     SAME(dikothelm_open_top(&bench, 64), 1);
@@ -478,6 +480,128 @@ static void ends_of_input(void) {
     }
 }
 
+/* What a single call answers to a list's request. */
+static uint32_t single(dikothelm_bench *bench, const dikothelm_request *request) {
+    const uint32_t x = request->x, y = request->y;
+    switch (request->kind) {
+    case DIKOTHELM_OPEN_TOP: return dikothelm_open_top(bench, x);
+    case DIKOTHELM_OPEN_SUB: return dikothelm_open_sub(bench, x, y);
+    case DIKOTHELM_READ: return dikothelm_read(bench, x, y);
+    case DIKOTHELM_WRITE: return dikothelm_write(bench, x, y);
+    case DIKOTHELM_COMMIT: return dikothelm_commit(bench, x);
+    case DIKOTHELM_ABORT: return dikothelm_abort(bench, x);
+    case DIKOTHELM_QUIET: return dikothelm_quiet(bench, x, y);
+    default: return DIKOTHELM_MALFORMED;
+    }
+}
+
+/* A list in one call does what single calls in its order do, one that is too long does nothing, and the words around it stay. Left in bench: what it did. */
+static void list_beside_single_calls(dikothelm_bench *bench, const dikothelm_request *list, size_t count) {
+    static dikothelm_request played[1002], expected[1002];
+    dikothelm_bench asked = *bench;
+    size_t k;
+    memset(played, 0xaa, sizeof played);
+    memcpy(played + 1, list, count * sizeof *list);
+    memcpy(expected, played, sizeof played);
+    for (k = 1; count <= DIKOTHELM_LONGEST_LIST && k <= count; k++) expected[k].answer = single(&asked, expected + k);
+    SAME(dikothelm_list(bench, played + 1, count), count > DIKOTHELM_LONGEST_LIST ? DIKOTHELM_TOO_LONG : 0);
+    SAME(memcmp(played, expected, sizeof played), 0);
+    SAME(memcmp(bench, &asked, sizeof asked), 0);
+}
+
+/* Numbers that look random and are the same each time. */
+static uint32_t drawn(uint32_t below) {
+    static uint64_t state = 1;
+    state = state * 6364136223846793005u + 1442695040888963407u;
+    return (uint32_t)(state >> 33) % below;
+}
+
+/* A request as a desk may send it: now and then of a kind that is none, with numbers at and beyond the edges; a spare number is anything. */
+static dikothelm_request drawn_request(void) {
+    static const uint32_t kinds[] = {0, 8, 255, 256, 0xffffffffu}, numbers[] = {62, 63, 64, 127, 128, 256, 0xffffffffu};
+    dikothelm_request request;
+    request.kind = drawn(8) ? 1 + drawn(7) : drawn(2) ? kinds[drawn(5)] : 1 + drawn(7) + 256 * (1 + drawn(0xffffff));
+    request.x = drawn(12) ? drawn(10) : numbers[drawn(7)];
+    request.y = drawn(12) ? drawn(10) : numbers[drawn(7)];
+    if (request.kind == DIKOTHELM_OPEN_TOP || request.kind == DIKOTHELM_COMMIT || request.kind == DIKOTHELM_ABORT) request.y = drawn(0x7fffffff) * 2 + 1;
+    request.answer = drawn(0x7fffffff);
+    return request;
+}
+
+static void lists(void) {
+    static const size_t counts[] = {0, 1, 2, 31, 32, 33, 1000};
+    static dikothelm_request list[1000];
+    dikothelm_bench bench;
+    size_t k, turn;
+    for (turn = 0; turn < 2000; turn++) {
+        const size_t count = turn % 20 == 0 ? counts[turn / 20 % 7] : drawn(DIKOTHELM_LONGEST_LIST + 2);
+        if (turn % 50 == 0) dikothelm_empty(&bench);
+        if (turn % 50 == 40) bench.actions[drawn(2 * DIKOTHELM_ACTIONS)] ^= (uint8_t)(1 + drawn(255)); /* most often this makes it unsound */
+        if (turn % 50 == 45) bench.owners[drawn(2 * DIKOTHELM_INSTRUMENTS)] ^= (uint64_t)1 << (20 + drawn(44));
+        for (k = 0; k < count; k++) list[k] = drawn_request();
+        list_beside_single_calls(&bench, list, count);
+    }
+}
+
+/* Lists at their edges, on a sound bench, an unsound one and a record of another length. */
+static void lists_at_the_edges(void) {
+    static const size_t too_many[] = {33, 34, 1000, (size_t)-1 / 16, (size_t)-1 / 4, (size_t)-1 / 4 + 1, (size_t)-1 / 2 + 1, (size_t)-1};
+    static const uint32_t kinds[] = {0, 8, 9, 255, 256, 256 + 3, 512 + 4, 0x10003, 0xffffff03u, 0xffffffffu};
+    static uint32_t words[4 * 33], expected[4 * 33];
+    dikothelm_bench bench = with_1_running();
+    const dikothelm_bench before = bench;
+    dikothelm_request list[33];
+    size_t k, spare;
+    SAME(dikothelm_list(&bench, NULL, 0), 0);
+    SAME(memcmp(&bench, &before, sizeof bench), 0);
+    for (k = 0; k < 33; k++) { /* 1 reads instrument k */
+        list[k].kind = DIKOTHELM_READ;
+        list[k].x = 1;
+        list[k].y = (uint32_t)k;
+        list[k].answer = 77;
+    }
+    memcpy(words, list, sizeof words);
+    for (k = 0; k < sizeof too_many / sizeof *too_many; k++) {
+        SAME(dikothelm_list(&bench, list, too_many[k]), DIKOTHELM_TOO_LONG);
+        SAME(memcmp(words, list, sizeof words), 0);
+        SAME(memcmp(&bench, &before, sizeof bench), 0);
+    }
+    for (spare = 0; spare <= 3; spare++) { /* words that are no whole request stay, and aren't counted */
+        bench = before;
+        memcpy(words, list, sizeof words);
+        memcpy(expected, list, sizeof words);
+        for (k = 0; k < 32; k++) expected[4 * k + 3] = k == 6 ? DIKOTHELM_NOT_GRANTED : 0; /* 2 drains at 6 */
+        SAME(dikothelm_image_list(DIKOTHELM_IMAGE_(&bench), words, 4 * 32 + spare), 0);
+        SAME(memcmp(words, expected, sizeof words), 0);
+        SAME(dikothelm_readers(&bench, 31), 2);
+        SAME(dikothelm_readers(&bench, 32), 0);
+        bench = before;
+        memcpy(words, list, sizeof words);
+        SAME(dikothelm_image_list(DIKOTHELM_IMAGE_(&bench), words, spare), 0);
+        SAME(memcmp(words, list, sizeof words), 0);
+        SAME(memcmp(&bench, &before, sizeof bench), 0);
+        SAME(dikothelm_image_list(bench.actions, 127, bench.owners, 256, words, 4 * 32 + spare), 7);
+        SAME(dikothelm_image_list(bench.actions, 128, bench.owners, 255, words, 4 * 33), 11);
+        SAME(dikothelm_image_list(NULL, 0, NULL, 0, words, 4 * 33), 11);
+        SAME(dikothelm_image_list(NULL, 0, NULL, 0, NULL, 0), 7);
+        SAME(memcmp(words, list, sizeof words), 0);
+        SAME(memcmp(&bench, &before, sizeof bench), 0);
+    }
+    bench.owners[0] = (uint64_t)1 << 63; /* a free number in a set */
+    for (k = 0; k < sizeof kinds / sizeof *kinds; k++) list[2 * k].kind = kinds[k];
+    memcpy(words, list, sizeof words);
+    SAME(dikothelm_list(&bench, list, 33), DIKOTHELM_TOO_LONG); /* 11 before 7 and 8 */
+    SAME(memcmp(words, list, sizeof words), 0);
+    SAME(dikothelm_list(&bench, list, 32), 0);
+    for (k = 0; k < 32; k++) SAME(list[k].answer, k % 2 == 0 && k / 2 < sizeof kinds / sizeof *kinds ? 8 : 7);
+    SAME(list[32].answer, 77);
+    SAME(bench.owners[0], (uint64_t)1 << 63);
+    bench.owners[0] = 0;
+    SAME(memcmp(&bench, &before, sizeof bench), 0);
+    SAME(dikothelm_list(&bench, list, 32), 0); /* unknown kinds on a sound bench, between requests that are granted */
+    for (k = 0; k < 32; k++) SAME(list[k].answer, k % 2 == 0 && k / 2 < sizeof kinds / sizeof *kinds ? 8 : k == 6 ? 6 : 0);
+}
+
 /* NULL with length 0 is an empty slice, in every place. */
 static void null_with_length_0(void) {
     dikothelm_bench bench = with_1_running();
@@ -528,6 +652,8 @@ static void null_with_length_0(void) {
 static void other_lengths(size_t many_actions, size_t many_owners, size_t many_progress) {
     static uint8_t actions[256], old_actions[256], out[64], old_out[64];
     static uint64_t owners[512], old_owners[512], progress[8], old_progress[8];
+    static const uint32_t old_words[4] = {DIKOTHELM_OPEN_TOP, 1, 0, 77};
+    uint32_t words[4] = {DIKOTHELM_OPEN_TOP, 1, 0, 77};
     const int record_is_wrong = many_actions != 128 || many_owners != 256;
     size_t count = 77;
     memset(actions, 0, sizeof actions);
@@ -557,6 +683,8 @@ static void other_lengths(size_t many_actions, size_t many_owners, size_t many_p
         SAME(count, 0);
         SAME(dikothelm_image_load(actions, many_actions, owners, many_owners, (const uint8_t *)"", 0), 7);
     }
+    if (record_is_wrong) SAME(dikothelm_image_list(actions, many_actions, owners, many_owners, words, 4), 7);
+    SAME(memcmp(words, old_words, sizeof words), 0);
     SAME(dikothelm_image_play(actions, many_actions, owners, many_owners, progress, many_progress, (const uint8_t *)"0101\n", 5, out, sizeof out), 7);
     SAME(dikothelm_image_finish(actions, many_actions, owners, many_owners, progress, many_progress, out, sizeof out), 7);
     SAME(memcmp(actions, old_actions, sizeof actions), 0);
@@ -576,10 +704,11 @@ static void answers_in_words(void) {
                                         "the record isn't sound",
                                         "malformed",
                                         "the buffer is too short",
-                                        "it isn't an aborted action that drains there"};
+                                        "it isn't an aborted action that drains there",
+                                        "the list is too long"};
     int number;
-    for (number = 0; number <= 10; number++) SAME(strcmp(dikothelm_says((enum dikothelm_answer)number), words[number]), 0);
-    SAME(strcmp(dikothelm_says((enum dikothelm_answer)11), "no answer of the table"), 0);
+    for (number = 0; number <= 11; number++) SAME(strcmp(dikothelm_says((enum dikothelm_answer)number), words[number]), 0);
+    SAME(strcmp(dikothelm_says((enum dikothelm_answer)12), "no answer of the table"), 0);
     SAME(strcmp(dikothelm_says((enum dikothelm_answer)15), "no answer of the table"), 0);
 }
 
@@ -596,6 +725,8 @@ int main(void) {
     lines_that_look_right();
     long_lines();
     ends_of_input();
+    lists();
+    lists_at_the_edges();
     null_with_length_0();
     for (k = 0; k < 6; k++) {
         other_lengths(actions[k], 256, 4);

@@ -4,10 +4,11 @@ use std::{fmt, io};
 use crate::version::Version;
 use crate::{image, VERSION};
 
-/// Why a request, a save or a load was refused. The bench is then as it was.
+/// Why a request, a list, a save or a load was refused. The bench is then as it was.
 ///
 /// Where several apply, [`Unsound`](Refusal::Unsound) comes first and then the one with the lowest number; for a line or a text,
-/// [`Malformed`](Refusal::Malformed) comes before both. [`OtherLibrary`](Refusal::OtherLibrary) is no answer of the table.
+/// [`Malformed`](Refusal::Malformed) comes before both, and for a list [`TooLong`](Refusal::TooLong) before all.
+/// [`OtherLibrary`](Refusal::OtherLibrary) is no answer of the table.
 ///
 /// ```
 /// use dikothelm::{Bench, Refusal};
@@ -35,18 +36,20 @@ pub enum Refusal {
     NotGranted = 6,
     /// 7: the record isn't sound.
     Unsound = 7,
-    /// 8: the line or the saved text is malformed.
+    /// 8: the line or the saved text is malformed, or no request has the kind.
     Malformed = 8,
     /// 9: the buffer is shorter than the text.
     NoRoom = 9,
     /// 10: the number isn't an aborted action that drains, or nothing of it drains at the instrument.
     NotDraining = 10,
+    /// 11: the list has more than 32 requests.
+    TooLong = 11,
     /// 255: the linked library isn't the one that this crate is for; [`check_library`](crate::check_library) says when.
     OtherLibrary = 255,
 }
 
 impl Refusal {
-    const OF_THE_TABLE: [Refusal; 10] = [
+    const OF_THE_TABLE: [Refusal; 11] = [
         Refusal::NoSuchAction,
         Refusal::NoSuchInstrument,
         Refusal::NotFree,
@@ -57,9 +60,10 @@ impl Refusal {
         Refusal::Malformed,
         Refusal::NoRoom,
         Refusal::NotDraining,
+        Refusal::TooLong,
     ];
 
-    /// The answer's number, 1 to 10, or 255.
+    /// The answer's number, 1 to 11, or 255.
     ///
     /// ```
     /// assert_eq!(dikothelm::Refusal::NotGranted.number(), 6);
@@ -70,13 +74,13 @@ impl Refusal {
     }
 }
 
-/// The refusal of the table with that number, 1 to 10.
+/// The refusal of the table with that number, 1 to 11.
 ///
 /// ```
 /// use dikothelm::Refusal;
 /// assert_eq!(Refusal::try_from(6), Ok(Refusal::NotGranted));
 /// assert!(Refusal::try_from(0).is_err());
-/// assert_eq!(Refusal::try_from(11).unwrap_err().to_string(), "no refusal has the number 11");
+/// assert_eq!(Refusal::try_from(12).unwrap_err().to_string(), "no refusal has the number 12");
 /// ```
 impl TryFrom<u8> for Refusal {
     type Error = UnknownNumber;
@@ -99,6 +103,7 @@ impl fmt::Display for Refusal {
             Refusal::Malformed => "malformed",
             Refusal::NoRoom => "the buffer is too short",
             Refusal::NotDraining => "it isn't an aborted action that drains there",
+            Refusal::TooLong => "the list is too long",
             Refusal::OtherLibrary => {
                 let (linked, own) = (Version(image::version()), Version(VERSION));
                 return write!(f, "the linked libdikothelm.a, version {linked}, isn't the library that this crate, version {own}, is for");
@@ -119,9 +124,9 @@ impl From<Refusal> for io::Error {
 /// A number that no answer, no refusal or no state has.
 ///
 /// ```
-/// let unknown = dikothelm::Answer::try_from(11).unwrap_err();
-/// assert_eq!(unknown.number(), 11);
-/// assert_eq!(unknown.to_string(), "no answer has the number 11");
+/// let unknown = dikothelm::Answer::try_from(12).unwrap_err();
+/// assert_eq!(unknown.number(), 12);
+/// assert_eq!(unknown.to_string(), "no answer has the number 12");
 /// ```
 #[derive(Clone, Copy, Debug, PartialEq, Eq, Hash)]
 pub struct UnknownNumber {
@@ -170,7 +175,7 @@ pub enum Answer {
 }
 
 impl Answer {
-    /// The answer's number, 0 to 10, or 255.
+    /// The answer's number, 0 to 11, or 255.
     ///
     /// ```
     /// use dikothelm::{Answer, Refusal};
@@ -186,13 +191,13 @@ impl Answer {
     }
 }
 
-/// The answer of the table with that number, 0 to 10.
+/// The answer of the table with that number, 0 to 11.
 ///
 /// ```
 /// use dikothelm::{Answer, Refusal};
 /// assert_eq!(Answer::try_from(0), Ok(Answer::Accepted));
 /// assert_eq!(Answer::try_from(6), Ok(Answer::Refused(Refusal::NotGranted)));
-/// assert!(Answer::try_from(11).is_err());
+/// assert!(Answer::try_from(12).is_err());
 /// ```
 impl TryFrom<u8> for Answer {
     type Error = UnknownNumber;

@@ -2,7 +2,7 @@ use std::fmt;
 
 use crate::answer::{answered, UnknownNumber};
 use crate::{check_library, image};
-use crate::{Numbers, Refusal, ACTIONS, INSTRUMENTS, LONGEST_TEXT};
+use crate::{Numbers, Refusal, Request, ACTIONS, INSTRUMENTS, LONGEST_TEXT};
 
 const NUMBERS: usize = ACTIONS as usize;
 const SETS: usize = INSTRUMENTS as usize;
@@ -311,6 +311,33 @@ impl Bench {
     /// ```
     pub fn quiet(&mut self, a: u32, i: u32) -> Result<(), Refusal> {
         self.ask(|actions, owners| image::quiet(actions, owners, a, i))
+    }
+
+    /// Plays a list of at most [`LONGEST_LIST`](crate::LONGEST_LIST) requests in their order, in one call and with one test of the record: each gets the
+    /// answer of its method in its place, and nothing else of the list changes. A refused request doesn't stop the rest; one of an unknown kind gets
+    /// [`Malformed`](Refusal::Malformed) in its place, and on an unsound record any other [`Unsound`](Refusal::Unsound).
+    ///
+    /// # Errors
+    /// [`TooLong`](Refusal::TooLong): nothing was played. What is refused to a request stands in its place.
+    ///
+    /// ```
+    /// use dikothelm::{Bench, Refusal, Request};
+    ///
+    /// let mut bench = Bench::new();
+    /// let mut list = [Request::open_top(1), Request::open_top(9), Request::write(1, 5), Request::read(9, 5), Request::commit(9)];
+    /// bench.play_list(&mut list)?;
+    /// assert_eq!(list.map(|request| request.answer), [0, 0, 0, Refusal::NotGranted.number().into(), 0]);
+    /// assert_eq!(bench.state(9), Some(dikothelm::State::Free));
+    /// # Ok::<(), Refusal>(())
+    /// ```
+    pub fn play_list(&mut self, list: &mut [Request]) -> Result<(), Refusal> {
+        self.ask(|actions, owners| image::list(actions, owners, image::words_of(list)))?;
+        // The proved library puts no number there but the table's.
+        if list.iter().all(|request| request.played().is_some()) {
+            Ok(())
+        } else {
+            Err(Refusal::OtherLibrary)
+        }
     }
 
     /// How many bytes the bench's text has, at most [`LONGEST_TEXT`].

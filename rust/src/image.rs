@@ -20,6 +20,8 @@
 //! This module has all of the crate's unsafe code. What the C side needs, each call gets from Rust's types: a slice's pointer is valid and aligned for the
 //! slice's length, the C side stays within that length, what is passed as `&mut` overlaps nothing else that is passed, and nothing is kept after the call.
 
+use crate::Request;
+
 extern "C" {
     fn dikothelm_version() -> u32;
     fn dikothelm_image_empty(actions: *mut u8, actions_length: usize, owners: *mut u64, owners_length: usize) -> u8;
@@ -31,6 +33,14 @@ extern "C" {
     fn dikothelm_image_commit(actions: *mut u8, actions_length: usize, owners: *mut u64, owners_length: usize, a: u32) -> u8;
     fn dikothelm_image_abort(actions: *mut u8, actions_length: usize, owners: *mut u64, owners_length: usize, a: u32) -> u8;
     fn dikothelm_image_quiet(actions: *mut u8, actions_length: usize, owners: *mut u64, owners_length: usize, a: u32, i: u32) -> u8;
+    fn dikothelm_image_list(
+        actions: *mut u8,
+        actions_length: usize,
+        owners: *mut u64,
+        owners_length: usize,
+        words: *mut u32,
+        words_length: usize,
+    ) -> u8;
     fn dikothelm_image_text_size(actions: *const u8, actions_length: usize, owners: *const u64, owners_length: usize, count: *mut usize) -> u8;
     fn dikothelm_image_save(
         actions: *const u8,
@@ -76,7 +86,7 @@ extern "C" {
 /// The version of the linked library: major × 65536 + minor × 256 + patch.
 ///
 /// ```
-/// assert_eq!(dikothelm::image::version() / 256, 3); // 0.3
+/// assert_eq!(dikothelm::image::version() / 256, 4); // 0.4
 /// ```
 #[must_use]
 pub fn version() -> u32 {
@@ -204,6 +214,30 @@ pub fn abort(actions: &mut [u8], owners: &mut [u64], a: u32) -> u8 {
 pub fn quiet(actions: &mut [u8], owners: &mut [u64], a: u32, i: u32) -> u8 {
     // SAFETY: as for `empty`.
     unsafe { dikothelm_image_quiet(actions.as_mut_ptr(), actions.len(), owners.as_mut_ptr(), owners.len(), a, i) }
+}
+
+/// Plays a list of requests in their order, four words each: kind, two numbers, and the place for the answer. 0; 11 for more than 32 requests; else 7 for a
+/// record of another length. Up to three words behind the last whole request stay.
+///
+/// ```
+/// let (mut actions, mut owners) = ([0; 128], [0; 256]);
+/// let mut words = [1, 7, 0, 99, 3, 7, 128, 99, 8, 0, 0, 99, 1, 9];
+/// assert_eq!(dikothelm::image::list(&mut actions, &mut owners, &mut words), 0);
+/// assert_eq!(words, [1, 7, 0, 0, 3, 7, 128, 2, 8, 0, 0, 8, 1, 9]);
+/// assert_eq!(dikothelm::image::list(&mut actions[1..], &mut owners, &mut words), 7);
+/// assert_eq!(dikothelm::image::list(&mut actions[1..], &mut owners, &mut [0; 4 * 33]), 11);
+/// ```
+#[must_use]
+pub fn list(actions: &mut [u8], owners: &mut [u64], words: &mut [u32]) -> u8 {
+    // SAFETY: pointers and lengths of three slices that are lent to write and so don't overlap.
+    unsafe { dikothelm_image_list(actions.as_mut_ptr(), actions.len(), owners.as_mut_ptr(), owners.len(), words.as_mut_ptr(), words.len()) }
+}
+
+/// The words of a list's requests.
+pub(crate) fn words_of(list: &mut [Request]) -> &mut [u32] {
+    // SAFETY: a request is `repr(C)` and has four words and nothing else, so that a slice of them is one of four times as many words; a word may hold
+    // anything.
+    unsafe { std::slice::from_raw_parts_mut(list.as_mut_ptr().cast(), 4 * list.len()) }
 }
 
 /// How many bytes the record's text has: the answer, 0 or 7, and the count, 0 where refused.

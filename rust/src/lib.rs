@@ -22,8 +22,8 @@
 //! # Ok::<(), Refusal>(())
 //! ```
 //!
-//! The seven requests, saving, loading and playing are the proved library's; what this crate adds around them is plain Rust, tested and not proved. Nothing
-//! panics, whatever numbers are asked, whatever a record holds, and whatever library is linked.
+//! The seven requests, lists of them in one call, saving, loading and playing are the proved library's; what this crate adds around them is plain Rust,
+//! tested and not proved. Nothing panics, whatever numbers are asked, whatever a record holds, and whatever library is linked.
 
 #![deny(missing_docs)]
 #![deny(unsafe_code)]
@@ -34,12 +34,14 @@ mod bench;
 pub mod image;
 mod numbers;
 mod player;
+mod request;
 mod version;
 
 pub use answer::{Answer, Refusal, UnknownNumber};
 pub use bench::{Bench, State};
 pub use numbers::{Members, Numbers};
 pub use player::Player;
+pub use request::Request;
 pub use version::{check_library, VERSION};
 
 /// How many action numbers there are: 0 to 63.
@@ -68,3 +70,14 @@ pub const INSTRUMENTS: u32 = 128;
 /// assert_eq!(dikothelm::LONGEST_TEXT, 64 * 9 + 128 * 37);
 /// ```
 pub const LONGEST_TEXT: usize = 5312;
+
+/// A list of requests in one call has at most so many.
+///
+/// ```
+/// use dikothelm::{Bench, Refusal, Request, LONGEST_LIST};
+///
+/// let mut list = [Request::open_top(1); LONGEST_LIST + 1];
+/// assert_eq!(Bench::new().play_list(&mut list), Err(Refusal::TooLong));
+/// assert_eq!(Bench::new().play_list(&mut list[1..]), Ok(()));
+/// ```
+pub const LONGEST_LIST: usize = 32;

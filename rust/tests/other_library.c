@@ -1,5 +1,5 @@
 /* A library that isn't the proved one, to be linked in its place: it says the version that the environment variable OTHER_VERSION has, and where that is one
-   of 0.2 it answers as no proved library does. Asked for more by a crate of another version, it ends the program. */
+   of the header's it answers as no proved library does. Asked for more by a crate of another version, it ends the program. */
 #include "dikothelm.h"
 
 #include <stdlib.h>
@@ -27,6 +27,13 @@ uint8_t dikothelm_image_write(RECORD, uint32_t a, uint32_t i) { return UNUSED, (
 uint8_t dikothelm_image_commit(RECORD, uint32_t a) { return UNUSED, (void)a, nonsense(); }
 uint8_t dikothelm_image_abort(RECORD, uint32_t a) { return UNUSED, (void)a, nonsense(); }
 uint8_t dikothelm_image_quiet(RECORD, uint32_t a, uint32_t i) { return UNUSED, (void)a, (void)i, nonsense(); }
+/* 42, or 0 with no answer in any place where the list is one request long. */
+uint8_t dikothelm_image_list(RECORD, uint32_t *words, size_t many_words) {
+    const uint8_t answer = nonsense();
+    (void)words;
+    return UNUSED, many_words == 4 ? (uint8_t)0 : answer;
+}
+
 uint8_t dikothelm_image_load(RECORD, const uint8_t *text, size_t length) { return UNUSED, (void)text, (void)length, nonsense(); }
 
 /* 0 with a size that no text has. */

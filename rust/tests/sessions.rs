@@ -101,16 +101,17 @@ fn answers_in_words() {
         "malformed",
         "the buffer is too short",
         "it isn't an aborted action that drains there",
+        "the list is too long",
     ];
-    for (number, said) in (0..=10).zip(words) {
+    for (number, said) in (0..=11).zip(words) {
         assert_eq!(Answer::try_from(number).map(|answer| answer.to_string()), Ok(said.to_string()));
     }
     for number in 0..=255 {
-        assert_eq!(Answer::try_from(number).ok().map(Answer::number), (number <= 10).then_some(number));
-        assert_eq!(Refusal::try_from(number).ok().map(Refusal::number), (1..=10).contains(&number).then_some(number));
+        assert_eq!(Answer::try_from(number).ok().map(Answer::number), (number <= 11).then_some(number));
+        assert_eq!(Refusal::try_from(number).ok().map(Refusal::number), (1..=11).contains(&number).then_some(number));
         assert_eq!(State::try_from(number).ok().map(State::number), (number <= 3).then_some(number));
     }
-    assert_eq!(Answer::try_from(11).unwrap_err().to_string(), "no answer has the number 11");
+    assert_eq!(Answer::try_from(12).unwrap_err().to_string(), "no answer has the number 12");
     assert_eq!(Refusal::try_from(255).unwrap_err().to_string(), "no refusal has the number 255");
     assert_eq!(State::try_from(4).unwrap_err().to_string(), "no state has the number 4");
     let refusal: Box<dyn Error> = Box::new(Refusal::NotGranted);
@@ -121,7 +122,7 @@ fn answers_in_words() {
 
 #[test]
 fn crate_and_library_are_of_one_version() {
-    assert_eq!((image::version(), VERSION), (0x000300, 0x000300));
+    assert_eq!((image::version(), VERSION), (0x000400, 0x000400));
     assert_eq!(check_library(), Ok(()));
 }
 

@@ -8,6 +8,9 @@ use Rattle.bench.specs.declared.Bench.{Bench}
 use Rattle.bench.specs.declared.Reply.{Reply}
 use Rattle.play.specs.declared.Fed.{Fed}
 use Rattle.bench.specs.Plays.{IsEmpty, Returns}
+use Rattle.lists.specs.declared.Request.{Request}
+use Rattle.lists.specs.declared.Played.{Played}
+use Rattle.lists.specs.Listed.{ReturnsOne, ReturnsList}
 use Rattle.play.specs.Feeding.{FedAs, ExplainedAs}
 use Rattle.play.specs.Finishing.{FinishedAs, FinishedExplainingAs}
 use Rattle.bench.proofs.Bench.empty.Reads as of-empty
@@ -18,6 +21,8 @@ use Rattle.bench.proofs.Bench.write.Reads as of-write
 use Rattle.bench.proofs.Bench.commit.Reads as of-commit
 use Rattle.bench.proofs.Bench.abort.Reads as of-abort
 use Rattle.bench.proofs.Bench.quiet.Reads as of-quiet
+use Rattle.lists.proofs.play_one.Reads as of-one
+use Rattle.lists.proofs.play_array.Reads as of-array
 use Rattle.play.proofs.Player.feed.Reads as of-feed
 use Rattle.play.proofs.Player.explain.Reads as of-explain
 use Rattle.play.proofs.Player.finish.Reads as of-finish
@@ -48,6 +53,15 @@ module _ (b : Bench) (r : Reply) where
 
   pub quiet-ensures : (a i : ℕ) → of-quiet.Learnt tt (b, (a, (i, tt))) r (b, (a, (i, tt))) → Returns b (quiet a i) r
   quiet-ensures a i learnt = learnt
+
+-- ---- requests by the list
+
+pub one-ensures : (b : Bench) (q : Request) (r : Reply) → of-one.Learnt tt (b, (q, tt)) r (b, (q, tt)) → ReturnsOne b q r
+one-ensures b q r learnt = learnt
+
+-- `play_list` is proved by hand, and so is its one caller in this repository, whose proof starts from `ReturnsList` (`lists` proofs/play_array).
+pub array-ensures : (κs : _) (lent : _) (r : Played) (after : _) → of-array.Learnt κs lent r after → ReturnsList (lent .0) (lent .1 .0) (r .reply) (r .list)
+array-ensures κs lent r after learnt = learnt
 
 -- ---- the player
 

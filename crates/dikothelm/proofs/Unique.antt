@@ -1,5 +1,5 @@
 -- The calls on a lent image have one result each: one answer, and one content of every slice and number lent. (Those for soundness and the version are equations; those of
--- requests have the law `request-unique` of the bench.) Assumes nothing.
+-- requests have the law `request-unique` of the image, and that of a list has `call-unique` of the desk.) Assumes nothing.
 use mathlib.Core.Path.{_≡_, sym, _∙_}
 use mathlib.Core.List.{List}
 use Prim.Native.Nat.{ℕ}

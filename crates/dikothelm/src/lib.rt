@@ -3,6 +3,7 @@
 mod feed;
 
 use bench::Bench;
+use desk::play_words;
 use image;
 use marks::answers::ACCEPTED;
 use marks::answers::UNSOUND;
@@ -17,6 +18,7 @@ ghost use mathlib.Core.Path.{_≡_};
 ghost use mathlib.Core.Option.{some};
 ghost use Rattle.rules.specs.Requests.{openTop, openSub, commit, abort, quiet};
 ghost use Rattle.rules.specs.ReadWrite.{read, write};
+ghost use Rattle.desk.specs.Desk.{ListPlayed};
 ghost use Rattle.image.specs.Image.{Requested};
 ghost use Rattle.saved.specs.Saved.{emptyRecord, loadOf};
 ghost use Rattle.dikothelm.specs.Calls.{Replaced, soundAnswer, SavedAs, SizeTold};
@@ -125,12 +127,26 @@ pub extern "C" fn dikothelm_image_quiet(
     image::request(actions, owners, QUIET, a, i)
 }
 
+// Plays a list of at most 32 requests, four words a record: kind, two numbers, and the place for the answer.
+#[no_mangle]
+pub extern "C" fn dikothelm_image_list(
+    actions: &mut [u8],
+    owners: &mut [u64],
+    words: &mut [u32],
+) -> u8
+    ensures { λ r. ⌜
+        ListPlayed (now (actions .entry)) (now (owners .entry)) (now (words .entry)) r (now (actions .exit)) (now (owners .exit)) (now (words .exit))
+        ⌝ }
+{
+    play_words(actions, owners, words)
+}
+
 // The library's version: major × 65536 + minor × 256 + patch.
 #[no_mangle]
 pub extern "C" fn dikothelm_version() -> u32
-    ensures { λ r. ⌜ r ≡ 768 ⌝ }
+    ensures { λ r. ⌜ r ≡ 1024 ⌝ }
 {
-    768
+    1024
 }
 
 // How many bytes the bench's text has, in `count`; 7 and 0 where there is no sound bench.

@@ -5,7 +5,7 @@ use mathlib.Core.List.{List, _++_}
 use mathlib.Core.Option.{Option}
 use Prim.Native.Nat.{ℕ, _+_, _≤_}
 use native.Mathlib.Omega.{arith}
-use borrow.Author.Tests.{eqb-true, eqb-false, ne-eqb, ltb-true, ltb-false, not-true, not-false}
+use borrow.Author.Tests.{eq-eqb, eqb-true, eqb-false, ne-eqb, ltb-true, ltb-false, not-true, not-false}
 use lib.Dec.{eqb, ltb}
 use lib.ListN.{length, getD, take, drop, replicate, length-append, length-drop}
 use lib.Seq.{take-all, take-at, drop-at, length-take-le}
@@ -18,7 +18,7 @@ use Rattle.rules.specs.Sound.{sound}
 use Rattle.rules.specs.ReadWrite.{readWrite}
 use Rattle.rules.proofs.Tests.{by-bool, and-left, and-right}
 use Rattle.bench.specs.declared.Bench.{Bench}
-use Rattle.views.specs.View.{view}
+use Rattle.views.specs.View.{view, layout, arrays}
 use Rattle.views.specs.Owners.{Standing}
 use Rattle.views.specs.Soundness.{soundWith}
 use Rattle.views.proofs.Words.{sound-with, arrays-long}
@@ -27,9 +27,11 @@ use Rattle.steps.specs.Arrays.{Arrays, lent, viewOf, readSets, writeSets, Sound
 use Rattle.steps.specs.Steps as steps
 use Rattle.steps.proofs.Standing.{standing-members, standing-halves}
 use Rattle.steps.proofs.RequestLaws.{request-steps}
+use Rattle.tables.specs.Steps.{Long}
 use Rattle.tables.proofs.Steps.{answer-unsound, step-refused}
 use Rattle.rules.proofs.Frames.{request-of, unframed}
-use Rattle.image.specs.Image.{isImage, imageView, recordOf, StoredAs, unsoundAnswer, Requested}
+use Rattle.image.specs.declared.Actions.{Actions}
+use Rattle.image.specs.Image.{isImage, imageView, recordOf, StoredAs, actionsIn, unsoundAnswer, Requested}
 
 -- what the test of the lengths found, on each way on from it
 pub was-image : {t : Bool} (found : Bool) → found ≡ t → not found ≡ false → t ≡ true
@@ -62,6 +64,13 @@ pub image-record : (actions owners parents states reads writes : List ℕ) → i
 image-record actions owners parents states reads writes image p s r w =
     let long = image-long actions owners image in
     rw (image, p, s, r, w, second-half 64 actions (long .0), second-half 128 owners (long .1))
+
+-- parents and states of bytes that are no image's, and of an image's
+pub no-actions : (actions : List ℕ) → (length actions ≡ 128 → ⊥) → _≡_ {A = Actions} (record { parents = replicate 64 0; states = replicate 64 0 }) (actionsIn actions)
+no-actions actions other = rw (ne-eqb (length actions) 128 other)
+
+pub image-actions : (actions parents states : List ℕ) → length actions ≡ 128 → parents ≡ take 64 actions → states ≡ take 64 (drop 64 actions) → _≡_ {A = Actions} (record { parents = parents; states = states }) (actionsIn actions)
+image-actions actions parents states long p s = rw (eq-eqb (length actions) 128 long, p, s, second-half 64 actions long)
 
 -- a record that is stored, or not
 pub image-stored : (b : Bench) (actions owners actions' owners' : List ℕ) → isImage actions owners ≡ true → actions' ≡ b .parents ++ b .states → owners' ≡ b .reads ++ b .writes → StoredAs b actions owners actions' owners'
@@ -112,28 +121,24 @@ module _ {actions owners parents states : List ℕ} (out : ReadOut actions owner
   long : (length actions ≡ 128) × (length owners ≡ 256)
   long = image-long actions owners (out .image)
 
-  read-view : viewOf before ≡ imageView actions owners
+  pub read-view : viewOf before ≡ imageView actions owners
   read-view = rw (out .isParents, out .isStates, second-half 64 actions (long .0), second-half 128 owners (long .1))
 
   -- what the soundness test finds
   pub read-sound : (numbers : ℕ) {ok : Bool} → ((k : ℕ) → member numbers k ≡ any (length owners) (λ i. member (getD owners i 0) k)) → ok ≡ soundWith parents states numbers → ok ≡ sound readWrite (viewOf before)
   read-sound numbers gathered e = e ∙ sound-with parents states (readSets owners) (writeSets owners) numbers (standing-read owners numbers (long .1) gathered)
 
-  pub read-arrays : (ok : Bool) → ok ≡ sound readWrite (viewOf before) → not ok ≡ false → SoundLists before
-  read-arrays ok e t =
+  pub read-long : Long layout (arrays parents states (readSets owners) (writeSets owners))
+  read-long =
       let bytes = bytes-room actions owners (out .image) in
       let words = words-room actions owners (out .image) in
-      record {
-        table = record {
-          long =
-              arrays-long (rw (out .isParents) (length-take-le 64 actions (bytes 0 (omega arith))))
-              (rw (out .isStates) (length-take-le 64 (drop 64 actions) (rw (length-drop 64 actions) (let room = bytes 64 (omega arith) in omega arith))))
-              (length-take-le 128 owners (words 0 (omega arith)))
-              (length-take-le 128 (drop 128 owners) (rw (length-drop 128 owners) (let room = words 128 (omega arith) in omega arith)));
-          isSound = sym e ∙ not-false ok t;
-        };
-        ownersLong = long .1;
-      }
+      arrays-long (rw (out .isParents) (length-take-le 64 actions (bytes 0 (omega arith))))
+      (rw (out .isStates) (length-take-le 64 (drop 64 actions) (rw (length-drop 64 actions) (let room = bytes 64 (omega arith) in omega arith))))
+      (length-take-le 128 owners (words 0 (omega arith)))
+      (length-take-le 128 (drop 128 owners) (rw (length-drop 128 owners) (let room = words 128 (omega arith) in omega arith)))
+
+  pub read-arrays : (ok : Bool) → ok ≡ sound readWrite (viewOf before) → not ok ≡ false → SoundLists before
+  read-arrays ok e t = record { table = record { long = read-long; isSound = sym e ∙ not-false ok t }; ownersLong = long .1 }
 
   -- ---- what a request leaves
 

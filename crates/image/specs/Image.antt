@@ -12,6 +12,7 @@ use Rattle.rules.specs.Bench as rules
 use Rattle.rules.specs.Requests.{Request}
 use Rattle.rules.specs.Answers.{Outcome, answered}
 use Rattle.bench.specs.declared.Bench.{Bench}
+use Rattle.image.specs.declared.Actions.{Actions}
 use Rattle.views.specs.View.{view}
 use Rattle.rules.specs.ReadWrite.{readWrite}
 
@@ -34,6 +35,17 @@ recordOf actions owners =
 pub record StoredAs (b : Bench) (actions owners actions' owners' : List ℕ) : Type 0 where
   pub bytes : actions' ≡ (if isImage actions owners then b .parents ++ b .states else actions)
   pub words : owners' ≡ (if isImage actions owners then b .reads ++ b .writes else owners)
+
+-- The parents and states of an image's bytes; those of free numbers where the bytes are other than 128.
+abbrev pub actionsIn : List ℕ → Actions
+actionsIn actions =
+    if eqb (length actions) 128
+    then record { parents = take 64 actions; states = drop 64 actions }
+    else record { parents = replicate 64 0; states = replicate 64 0 }
+
+-- An image's bytes with parents and states stored; other than 128 stay as they were.
+abbrev pub actionsStored : Actions → List ℕ → List ℕ
+actionsStored from actions = if eqb (length actions) 128 then from .parents ++ from .states else actions
 
 -- What a code is answered on an image that isn't sound: 7 where it is a request's, else 8.
 abbrev pub unsoundAnswer : ℕ → ℕ

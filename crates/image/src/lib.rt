@@ -16,7 +16,7 @@ ghost use mathlib.Core.Bool.{true};
 ghost use Prim.Native.Nat.{_+_, _≤_};
 ghost use lib.ListN.{length, take, drop};
 ghost use lib.Seq.{sets};
-ghost use Rattle.image.specs.Image.{isImage, recordOf, StoredAs, unsoundAnswer, Requested};
+ghost use Rattle.image.specs.Image.{isImage, recordOf, StoredAs, actionsIn, actionsStored, unsoundAnswer, Requested};
 ghost use Rattle.rules.specs.Frames.{framed};
 
 // Whether the slices are an image: by their lengths alone.
@@ -24,6 +24,12 @@ pub fn is_image(actions: &[u8], owners: &[u64]) -> bool
     ensures { λ r. ⌜ r ≡ isImage (now (actions .entry)) (now (owners .entry)) ⌝ }
 {
     (actions.len() == 128) & (owners.len() == 256)
+}
+
+// The parents and states of the 64 numbers.
+pub struct Actions {
+    pub parents: [u8; 64],
+    pub states: [u8; 64],
 }
 
 // 64 bytes from a place on.
@@ -137,5 +143,30 @@ pub fn store(bench: Bench, actions: &mut [u8], owners: &mut [u64])
     if is_image(actions, owners) {
         put_actions(actions, &bench.parents, &bench.states);
         put_owners(owners, &bench.reads, &bench.writes);
+    }
+}
+
+// The parents and states of an image's bytes, and those of free numbers where there are other than 128.
+pub fn actions_of(actions: &[u8]) -> Actions
+    ensures { λ r. ⌜ r ≡ actionsIn (now (actions .entry)) ⌝ }
+{
+    if actions.len() != 128 {
+        return Actions {
+            parents: [0u8; 64],
+            states: [0u8; 64],
+        };
+    }
+    Actions {
+        parents: bytes_from(actions, 0),
+        states: bytes_from(actions, 64),
+    }
+}
+
+// Writes parents and states into an image's bytes; other than 128 stay as they are.
+pub fn store_actions(from: Actions, actions: &mut [u8])
+    ensures { λ r. ⌜ now (actions .exit) ≡ actionsStored from (now (actions .entry)) ⌝ }
+{
+    if actions.len() == 128 {
+        put_actions(actions, &from.parents, &from.states);
     }
 }

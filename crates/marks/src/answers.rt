@@ -32,3 +32,6 @@ pub const NO_ROOM: u8 = 9;
 
 // Quiet: the action isn't draining under itself, or its group isn't in the instrument's sets.
 pub const NOT_DRAINING: u8 = 10;
+
+// A list in one call: it is longer than 32.
+pub const TOO_LONG: u8 = 11;

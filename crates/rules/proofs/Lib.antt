@@ -28,6 +28,8 @@ pub mod Frames
 -- SetForm: owner sets held to ancestors, and upward and downward sets, give the rule over heirs.
 -- Reasons: whom an answer names, what is said of an owner that blocks, and that all answers but 0 and 7 name somebody.
 -- ReasonControls: reasons computed, and stronger claims refuted.
+-- Lists: what a call with a list gives is what single calls in list order give; one call is as good as two, and nothing but the answer places changes.
+-- ListControls: calls computed, and stronger claims refuted.
 -- Sessions: document 01's sessions marked (P) and those of order 2, answered by the step as the documents answer them: one computed test.
 -- Controls: computed benches that tell the rules from wrong ones near them, and on which soundness holds and fails.
 pub mod Kept
@@ -40,6 +42,8 @@ pub mod SetForm
 pub mod Grants
 pub mod Reasons
 pub mod ReasonControls
+pub mod Lists
+pub mod ListControls
 pub mod Sessions
 pub mod Controls
 -- Demand 2, the plain machine:
@@ -68,6 +72,7 @@ pub mod DemandControls
 -- Alone: a bench that a side has to itself stays so under the side's own requests.
 -- Merged: the answers and the record of a merging, from two benches side by side.
 -- DemandThree: demand 3, any merging of two lists that are apart gets each its own answers by Moss's rules, and all mergings leave the same record.
+-- ListOrders: two lists of request records that are apart, called in either order, are each answered as if alone, and leave the same record.
 -- ApartTest: a test, pair by pair, that shows two lists to be apart.
 -- MergingControls: a merging computed, and demand 3 refuted where any of its hypotheses is weaker.
 pub mod Mix
@@ -76,5 +81,6 @@ pub mod MixSteps
 pub mod Alone
 pub mod Merged
 pub mod DemandThree
+pub mod ListOrders
 pub mod ApartTest
 pub mod MergingControls

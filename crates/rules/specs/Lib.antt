@@ -8,6 +8,8 @@ pub mod Reasons
 pub mod SetForm
 pub mod ReadWrite
 pub mod Frames
+pub mod Lists
+pub mod SingleCalls
 pub mod Sessions
 pub mod Plain
 pub mod PlainReasons

@@ -38,7 +38,7 @@ fn few_numbers(draw: &mut Draw) -> Record {
 }
 
 /// A sound record with one byte or one word changed.
-fn changed_forest(draw: &mut Draw) -> Record {
+pub fn changed_forest(draw: &mut Draw) -> Record {
     let mut record = draw::forest(draw);
     let (n, i) = (draw.below(64), draw.below(128));
     match draw.below(5) {
@@ -160,11 +160,12 @@ fn other_lengths_get_7_and_stay() {
                     image::quiet(&mut a, &mut o, 1, 128),
                     image::load(&mut a, &mut o, b""),
                     image::load(&mut a, &mut o, b"110101ff\n"),
+                    image::list(&mut a, &mut o, &mut [1; 4]),
                     image::play(&mut a, &mut o, &mut progress, b"0101\n", &mut out),
                     image::finish(&mut a, &mut o, &mut progress, &mut out),
                 ];
                 let at = format!("{many_actions} and {many_owners}");
-                assert_eq!(answers, [7; 13], "{at}");
+                assert_eq!(answers, [7; 14], "{at}");
                 assert_eq!(image::save(&a, &o, &mut out), (7, 0), "{at}");
                 assert_eq!(image::text_size(&a, &o), (7, 0), "{at}");
                 assert!(a == actions && o == owners && out == [0xaa; 6000] && progress == [1, 2, 3, 4], "changed, {at}");

@@ -1,7 +1,8 @@
-//! The crate against a model of its own: seeded requests, saved texts, traces and images of anything. A failure names its seed.
+//! The crate against a model of its own: seeded requests, lists of them, saved texts, traces and images of anything. A failure names its seed.
 
 mod draw;
 mod images;
+mod lists;
 mod plain;
 mod player;
 mod record;
