@@ -24,6 +24,14 @@
 #define DIKOTHELM_LONGEST_TEXT 5312 /* a saved bench has at most so many bytes */
 #define DIKOTHELM_LONGEST_LIST 32   /* a list of requests has at most so many */
 
+/* The stack that a call takes: at most so many bytes below the caller's frame, its arguments and its return address included. Measured and tested, with the
+   archive as it is built for x86-64 (benchmarks/stack), not proved. */
+#define DIKOTHELM_STACK_EMPTY 32     /* dikothelm_version, dikothelm_image_empty */
+#define DIKOTHELM_STACK_REQUEST 480  /* dikothelm_image_sound, each request, dikothelm_image_list */
+#define DIKOTHELM_STACK_SAVED 480    /* dikothelm_image_text_size, _save and _load */
+#define DIKOTHELM_STACK_PLAY 18752   /* dikothelm_image_play */
+#define DIKOTHELM_STACK_FINISH 16576 /* dikothelm_image_finish */
+
 /* Where several answers apply, 7 comes first and then the lowest. (A line, a text, a kind in a list: 8 first. A list: 11 first.) */
 enum dikothelm_answer {
     DIKOTHELM_ACCEPTED = 0,           /* done */
@@ -75,69 +83,85 @@ extern "C" {
    Lengths count elements. A record of other lengths gets 7 and stays as it is. Whatever the answer but 0, nothing changes, with two exceptions: `count` is
    then set to 0, and load leaves an empty bench. */
 
-/* The version of the archive, as DIKOTHELM_VERSION. */
+/* The version of the archive, as DIKOTHELM_VERSION.
+   Stack: DIKOTHELM_STACK_EMPTY. */
 uint32_t dikothelm_version(void);
 
-/* Makes the record an empty bench. 0, or 7 for another length. */
+/* Makes the record an empty bench. 0, or 7 for another length.
+   Stack: DIKOTHELM_STACK_EMPTY. */
 uint8_t dikothelm_image_empty(uint8_t *actions, size_t actions_length, uint64_t *owners, size_t owners_length);
 
-/* Whether the record is a sound bench. 0 if so, else 7. */
+/* Whether the record is a sound bench. 0 if so, else 7.
+   Stack: DIKOTHELM_STACK_REQUEST. */
 uint8_t dikothelm_image_sound(const uint8_t *actions, size_t actions_length, const uint64_t *owners, size_t owners_length);
 
-/* Makes n a running top action. 7; 1: n above 63; 3: n isn't free. */
+/* Makes n a running top action. 7; 1: n above 63; 3: n isn't free.
+   Stack: DIKOTHELM_STACK_REQUEST. */
 uint8_t dikothelm_image_open_top(uint8_t *actions, size_t actions_length, uint64_t *owners, size_t owners_length, uint32_t n);
 
-/* Makes n a running action under p. 7; 1: n or p above 63; 3: n isn't free; 4: p isn't running. */
+/* Makes n a running action under p. 7; 1: n or p above 63; 3: n isn't free; 4: p isn't running.
+   Stack: DIKOTHELM_STACK_REQUEST. */
 uint8_t dikothelm_image_open_sub(uint8_t *actions, size_t actions_length, uint64_t *owners, size_t owners_length, uint32_t n, uint32_t p);
 
 /* Lets a read instrument i. 7; 1: a above 63; 2: i above 127; 4: a isn't running; 5: a has a running child; 6: an owner of the write set is neither a
-   nor an ancestor of a. */
+   nor an ancestor of a.
+   Stack: DIKOTHELM_STACK_REQUEST. */
 uint8_t dikothelm_image_read(uint8_t *actions, size_t actions_length, uint64_t *owners, size_t owners_length, uint32_t a, uint32_t i);
 
-/* Lets a write instrument i. As read; 6: an owner of either set is neither a nor an ancestor of a. */
+/* Lets a write instrument i. As read; 6: an owner of either set is neither a nor an ancestor of a.
+   Stack: DIKOTHELM_STACK_REQUEST. */
 uint8_t dikothelm_image_write(uint8_t *actions, size_t actions_length, uint64_t *owners, size_t owners_length, uint32_t a, uint32_t i);
 
 /* Commits a: its parent inherits its locks. A top's commit frees it and all its descendants, and their locks. 7; 1: a above 63; 4: a isn't running; 5: a
-   has a running child. */
+   has a running child.
+   Stack: DIKOTHELM_STACK_REQUEST. */
 uint8_t dikothelm_image_commit(uint8_t *actions, size_t actions_length, uint64_t *owners, size_t owners_length, uint32_t a);
 
 /* Aborts a and all its descendants, running or committed. If one of them stands in a set, they all drain under a: they leave the tree and stay in use, and
-   a owns what they had, until dikothelm_image_quiet. Else they become free. 7; 1: a above 63; 4: a isn't running. */
+   a owns what they had, until dikothelm_image_quiet. Else they become free. 7; 1: a above 63; 4: a isn't running.
+   Stack: DIKOTHELM_STACK_REQUEST. */
 uint8_t dikothelm_image_abort(uint8_t *actions, size_t actions_length, uint64_t *owners, size_t owners_length, uint32_t a);
 
 /* Instrument i is quiet for the aborted action a: all numbers that drain under a leave its sets, and become free when none of them is left in any set. 7; 1: a
-   above 63; 2: i above 127; 10: a doesn't drain under itself, or none that drains under it is in the sets of i. */
+   above 63; 2: i above 127; 10: a doesn't drain under itself, or none that drains under it is in the sets of i.
+   Stack: DIKOTHELM_STACK_REQUEST. */
 uint8_t dikothelm_image_quiet(uint8_t *actions, size_t actions_length, uint64_t *owners, size_t owners_length, uint32_t a, uint32_t i);
 
 /* Plays a list of requests in their order, and tests the record once for all of them. A request is four words: its kind (enum dikothelm_kind), x, y and the
    place for its answer, where the call puts what the single call would have answered. A refused request doesn't stop the rest. A kind that isn't 1 to 7 gets 8
    at its place, and on an unsound record every other gets 7. Nothing but the answers changes in words; up to three words behind the last whole request are
-   none. 0; 11: more than 32 requests; 7: a record of another length. Whatever the answer but 0, nothing is played. */
+   none. 0; 11: more than 32 requests; 7: a record of another length. Whatever the answer but 0, nothing is played.
+   Stack: DIKOTHELM_STACK_REQUEST. */
 uint8_t dikothelm_image_list(uint8_t *actions, size_t actions_length, uint64_t *owners, size_t owners_length, uint32_t *words, size_t words_length);
 
-/* How many bytes the bench's text has, put into count. 0; 7, with count 0. */
+/* How many bytes the bench's text has, put into count. 0; 7, with count 0.
+   Stack: DIKOTHELM_STACK_SAVED. */
 uint8_t dikothelm_image_text_size(const uint8_t *actions, size_t actions_length, const uint64_t *owners, size_t owners_length, size_t *count);
 
 /* Writes the bench as text to the start of out; bytes behind it stay. count: the bytes written. 0; 7; 9: out is shorter than the text. Refused, it sets
-   count to 0 and leaves all of out as it was. */
+   count to 0 and leaves all of out as it was.
+   Stack: DIKOTHELM_STACK_SAVED. */
 uint8_t dikothelm_image_save(const uint8_t *actions, size_t actions_length, const uint64_t *owners, size_t owners_length, uint8_t *out, size_t out_length,
                              size_t *count);
 
 /* Makes the record the bench that a text saved. 0; 8: the text is malformed; 7: it is well shaped and its bench isn't sound, or the record has another
-   length. Refused, it leaves an empty bench (a record of another length stays as it is). */
+   length. Refused, it leaves an empty bench (a record of another length stays as it is).
+   Stack: DIKOTHELM_STACK_SAVED. */
 uint8_t dikothelm_image_load(uint8_t *actions, size_t actions_length, uint64_t *owners, size_t owners_length, const uint8_t *text, size_t text_length);
 
 /* Plays lines of hexadecimal, each ended by a newline: 01nn open top, 02nnpp open sub, 03aaii read, 04aaii write, 05aa commit, 06aa abort, 07aaii quiet; any
    other line gets 8. For each line it writes the answer to out, two digits and a newline; bytes behind the answers stay. A call takes the input's first
    out_length / 3 bytes, or all where it has fewer: lend at least 3, since below that nothing is taken, and call again with the rest. progress says how many
    bytes were taken and written and carries a begun line to the next call; dikothelm_image_finish ends the input. 0, or 7 where the record or progress has
-   another length. On an unsound record each line with a request gets 07. */
+   another length. On an unsound record each line with a request gets 07.
+   Stack: DIKOTHELM_STACK_PLAY. */
 uint8_t dikothelm_image_play(uint8_t *actions, size_t actions_length, uint64_t *owners, size_t owners_length, uint64_t *progress, size_t progress_length,
                              const uint8_t *input, size_t input_length, uint8_t *out, size_t out_length);
 
 /* Ends the input that was played: a last line without its newline is answered if it has a character, and nothing else is done. progress says that 0 bytes
    were taken and 0 or 3 written. Lend at least 3: below that a begun line stays begun, so that the call can be made again; progress[DIKOTHELM_DIGITS] is then
-   not 0. 0, or 7 where the record or progress has another length. */
+   not 0. 0, or 7 where the record or progress has another length.
+   Stack: DIKOTHELM_STACK_FINISH. */
 uint8_t dikothelm_image_finish(uint8_t *actions, size_t actions_length, uint64_t *owners, size_t owners_length, uint64_t *progress, size_t progress_length,
                                uint8_t *out, size_t out_length);
 

@@ -2,7 +2,6 @@
 // and then their states, and to 256 words, the read sets of the 128 instruments and then the write sets. Nothing is kept between calls.
 mod feed;
 
-use bench::Bench;
 use desk::play_words;
 use image;
 use marks::answers::ACCEPTED;
@@ -14,6 +13,9 @@ use marks::codes::OPEN_TOP;
 use marks::codes::QUIET;
 use marks::codes::READ;
 use marks::codes::WRITE;
+use saved::in_place::image_text_size;
+use saved::in_place::load_image;
+use saved::in_place::save_image;
 ghost use mathlib.Core.Path.{_≡_};
 ghost use mathlib.Core.Option.{some};
 ghost use Rattle.rules.specs.Requests.{openTop, openSub, commit, abort, quiet};
@@ -31,13 +33,7 @@ pub extern "C" fn dikothelm_image_empty(actions: &mut [u8], owners: &mut [u64]) 
     if !image::is_image(actions, owners) {
         return UNSOUND;
     }
-    let bench = Bench {
-        parents: [0u8; 64],
-        states: [0u8; 64],
-        reads: [0u64; 128],
-        writes: [0u64; 128],
-    };
-    image::store(bench, actions, owners);
+    image::clear(actions, owners);
     ACCEPTED
 }
 
@@ -46,11 +42,7 @@ pub extern "C" fn dikothelm_image_empty(actions: &mut [u8], owners: &mut [u64]) 
 pub extern "C" fn dikothelm_image_sound(actions: &[u8], owners: &[u64]) -> u8
     ensures { λ r. ⌜ r ≡ soundAnswer (now (actions .entry)) (now (owners .entry)) ⌝ }
 {
-    if !image::is_image(actions, owners) {
-        return UNSOUND;
-    }
-    let bench = image::bench_of(actions, owners);
-    if bench.is_sound() {
+    if image::is_sound(actions, owners) {
         return ACCEPTED;
     }
     UNSOUND
@@ -151,33 +143,29 @@ pub extern "C" fn dikothelm_version() -> u32
 
 // How many bytes the bench's text has, in `count`; 7 and 0 where there is no sound bench.
 #[no_mangle]
-pub extern "C" fn dikothelm_image_text_size(actions: &[u8], owners: &[u64], count: &mut usize) -> u8
+pub extern "C" fn dikothelm_image_text_size<'a>(
+    actions: &'a [u8],
+    owners: &'a [u64],
+    count: &mut usize,
+) -> u8
     ensures { λ r. ⌜ SizeTold (now (actions .entry)) (now (owners .entry)) r (now (count .exit)) ⌝ }
 {
-    if !image::is_image(actions, owners) {
-        *count = 0;
-        return UNSOUND;
-    }
-    let size = saved::text_size(image::bench_of(actions, owners));
+    let size = image_text_size(actions, owners);
     *count = size.count;
     size.answer
 }
 
 // Writes the bench's text at the buffer's start; `count` says how many bytes. Refused, it writes nothing.
 #[no_mangle]
-pub extern "C" fn dikothelm_image_save(
-    actions: &[u8],
-    owners: &[u64],
+pub extern "C" fn dikothelm_image_save<'a>(
+    actions: &'a [u8],
+    owners: &'a [u64],
     out: &mut [u8],
     count: &mut usize,
 ) -> u8
     ensures { λ r. ⌜ SavedAs (now (actions .entry)) (now (owners .entry)) (now (out .entry)) r (now (out .exit)) (now (count .exit)) ⌝ }
 {
-    if !image::is_image(actions, owners) {
-        *count = 0;
-        return UNSOUND;
-    }
-    let saved = saved::save(image::bench_of(actions, owners), out);
+    let saved = save_image(actions, owners, out);
     *count = saved.count;
     saved.answer
 }
@@ -187,11 +175,5 @@ pub extern "C" fn dikothelm_image_save(
 pub extern "C" fn dikothelm_image_load(actions: &mut [u8], owners: &mut [u64], text: &[u8]) -> u8
     ensures { λ r. ⌜ Replaced (loadOf (now (text .entry)) .answer) (loadOf (now (text .entry)) .bench) (now (actions .entry)) (now (owners .entry)) r (now (actions .exit)) (now (owners .exit)) ⌝ }
 {
-    if !image::is_image(actions, owners) {
-        return UNSOUND;
-    }
-    let loaded = saved::load(text);
-    let bench = loaded.bench;
-    image::store(bench, actions, owners);
-    loaded.answer
+    load_image(actions, owners, text)
 }

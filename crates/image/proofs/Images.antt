@@ -31,7 +31,7 @@ use Rattle.tables.specs.Steps.{Long}
 use Rattle.tables.proofs.Steps.{answer-unsound, step-refused}
 use Rattle.rules.proofs.Frames.{request-of, unframed}
 use Rattle.image.specs.declared.Actions.{Actions}
-use Rattle.image.specs.Image.{isImage, imageView, recordOf, StoredAs, actionsIn, unsoundAnswer, Requested}
+use Rattle.image.specs.Image.{isImage, imageView, soundImage, recordOf, StoredAs, actionsIn, unsoundAnswer, Requested}
 
 -- what the test of the lengths found, on each way on from it
 pub was-image : {t : Bool} (found : Bool) → found ≡ t → not found ≡ false → t ≡ true
@@ -64,6 +64,10 @@ pub image-record : (actions owners parents states reads writes : List ℕ) → i
 image-record actions owners parents states reads writes image p s r w =
     let long = image-long actions owners image in
     rw (image, p, s, r, w, second-half 64 actions (long .0), second-half 128 owners (long .1))
+
+-- slices that are no image aren't sound
+pub no-sound-image : (actions owners : List ℕ) → isImage actions owners ≡ false → false ≡ soundImage actions owners
+no-sound-image actions owners other = rw other
 
 -- parents and states of bytes that are no image's, and of an image's
 pub no-actions : (actions : List ℕ) → (length actions ≡ 128 → ⊥) → _≡_ {A = Actions} (record { parents = replicate 64 0; states = replicate 64 0 }) (actionsIn actions)
@@ -127,6 +131,9 @@ module _ {actions owners parents states : List ℕ} (out : ReadOut actions owner
   -- what the soundness test finds
   pub read-sound : (numbers : ℕ) {ok : Bool} → ((k : ℕ) → member numbers k ≡ any (length owners) (λ i. member (getD owners i 0) k)) → ok ≡ soundWith parents states numbers → ok ≡ sound readWrite (viewOf before)
   read-sound numbers gathered e = e ∙ sound-with parents states (readSets owners) (writeSets owners) numbers (standing-read owners numbers (long .1) gathered)
+
+  pub sound-image : (numbers : ℕ) {ok : Bool} → ((k : ℕ) → member numbers k ≡ any (length owners) (λ i. member (getD owners i 0) k)) → ok ≡ soundWith parents states numbers → ok ≡ soundImage actions owners
+  sound-image numbers gathered e = rw (out .image, ← read-view) (read-sound numbers gathered e)
 
   pub read-long : Long layout (arrays parents states (readSets owners) (writeSets owners))
   read-long =

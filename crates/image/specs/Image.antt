@@ -11,6 +11,7 @@ use Rattle.rules.specs.Tests.{if_then_else_}
 use Rattle.rules.specs.Bench as rules
 use Rattle.rules.specs.Requests.{Request}
 use Rattle.rules.specs.Answers.{Outcome, answered}
+use Rattle.rules.specs.Sound.{sound}
 use Rattle.bench.specs.declared.Bench.{Bench}
 use Rattle.image.specs.declared.Actions.{Actions}
 use Rattle.views.specs.View.{view}
@@ -24,12 +25,20 @@ isImage actions owners = eqb (length actions) 128 && eqb (length owners) 256
 abbrev pub imageView : List ℕ → List ℕ → rules.Bench
 imageView actions owners = view (take 64 actions) (drop 64 actions) (take 128 owners) (drop 128 owners)
 
+-- Whether an image is that of a sound bench; slices that are none aren't.
+abbrev pub soundImage : List ℕ → List ℕ → Bool
+soundImage actions owners = isImage actions owners && sound readWrite (imageView actions owners)
+
+-- an empty bench, as a record
+abbrev pub emptyRecord : Bench
+emptyRecord = record { parents = replicate 64 0; states = replicate 64 0; reads = replicate 128 0; writes = replicate 128 0 }
+
 -- The record of an image; that of an empty bench where the slices are none.
 abbrev pub recordOf : List ℕ → List ℕ → Bench
 recordOf actions owners =
     if isImage actions owners
     then record { parents = take 64 actions; states = drop 64 actions; reads = take 128 owners; writes = drop 128 owners }
-    else record { parents = replicate 64 0; states = replicate 64 0; reads = replicate 128 0; writes = replicate 128 0 }
+    else emptyRecord
 
 -- A record is stored: an image becomes the record's, and slices that are none stay as they were.
 pub record StoredAs (b : Bench) (actions owners actions' owners' : List ℕ) : Type 0 where

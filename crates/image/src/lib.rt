@@ -14,9 +14,9 @@ ghost use mathlib.Core.Path.{_≡_};
 ghost use mathlib.Core.List.{_++_};
 ghost use mathlib.Core.Bool.{true};
 ghost use Prim.Native.Nat.{_+_, _≤_};
-ghost use lib.ListN.{length, take, drop};
+ghost use lib.ListN.{length, take, drop, replicate};
 ghost use lib.Seq.{sets};
-ghost use Rattle.image.specs.Image.{isImage, recordOf, StoredAs, actionsIn, actionsStored, unsoundAnswer, Requested};
+ghost use Rattle.image.specs.Image.{isImage, soundImage, emptyRecord, recordOf, StoredAs, actionsIn, actionsStored, unsoundAnswer, Requested};
 ghost use Rattle.rules.specs.Frames.{framed};
 
 // Whether the slices are an image: by their lengths alone.
@@ -114,6 +114,44 @@ pub fn request(actions: &mut [u8], owners: &mut [u64], code: u8, x: u32, y: u32)
         return UNSOUND;
     }
     on_image(actions, owners, code, x, y)
+}
+
+// Whether the image is that of a sound bench; slices that are none aren't. Parents and states are copied, and the words are read in place.
+pub fn is_sound(actions: &[u8], owners: &[u64]) -> bool
+    ensures { λ r. ⌜ r ≡ soundImage (now (actions .entry)) (now (owners .entry)) ⌝ }
+{
+    if !is_image(actions, owners) {
+        return false;
+    }
+    let parents = bytes_from(actions, 0);
+    let states = bytes_from(actions, 64);
+    sound(&parents, &states, standing(owners))
+}
+
+fn clear_bytes(bytes: &mut [u8])
+    ensures { λ r. ⌜ now (bytes .exit) ≡ replicate (length (now (bytes .entry))) 0 ⌝ }
+{
+    for k in 0..bytes.len() {
+        bytes[k] = 0;
+    }
+}
+
+fn clear_words(words: &mut [u64])
+    ensures { λ r. ⌜ now (words .exit) ≡ replicate (length (now (words .entry))) 0 ⌝ }
+{
+    for k in 0..words.len() {
+        words[k] = 0;
+    }
+}
+
+// Makes the image that of an empty bench; slices that are none stay as they are.
+pub fn clear(actions: &mut [u8], owners: &mut [u64])
+    ensures { λ r. ⌜ StoredAs emptyRecord (now (actions .entry)) (now (owners .entry)) (now (actions .exit)) (now (owners .exit)) ⌝ }
+{
+    if is_image(actions, owners) {
+        clear_bytes(actions);
+        clear_words(owners);
+    }
 }
 
 // The record of an image, and an empty one of slices that are none.

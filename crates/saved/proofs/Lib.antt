@@ -5,4 +5,6 @@ pub mod SaveAndLoad
 pub mod Contracts
 pub mod ShapeCases
 -- SaidByText: what a load gives, from what was read.
+-- InPlaceLaws: what is told of a lent image, written from it and loaded into it.
 mod SaidByText
+mod InPlaceLaws

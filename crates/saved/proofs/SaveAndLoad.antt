@@ -83,7 +83,7 @@ load-then-save text out after l r loads granted room saves =
     (saves .0 ∙ both .0, saves .1 ∙ both .1)
 
 -- a load that is refused gives arrays of zeros
-refused-zeros : (o : Option Bench) → (loadedFrom o .answer ≡ 0 → ⊥) → loadedFrom o .bench ≡ emptyRecord
+pub refused-zeros : (o : Option Bench) → (loadedFrom o .answer ≡ 0 → ⊥) → loadedFrom o .bench ≡ emptyRecord
 refused-zeros none never = refl
 refused-zeros (some b) never =
     by-bool (sound readWrite (viewed b)) (λ ok. absurd (never (rw ok))) (λ broken. rw broken)

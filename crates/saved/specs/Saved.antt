@@ -4,12 +4,13 @@ use mathlib.Core.List.{List}
 use mathlib.Core.Option.{Option, none, some}
 use mathlib.Core.Path.{_≡_}
 use Prim.Native.Nat.{ℕ}
-use lib.ListN.{length, replicate}
+use lib.ListN.{length}
 use Rattle.rules.specs.Tests.{if_then_else_}
 use Rattle.rules.specs.Sound.{sound}
 use Rattle.rules.specs.ReadWrite.{readWrite}
 use Rattle.bench.specs.declared.Bench.{Bench}
 use Rattle.bench.specs.Record.{viewed}
+pub use Rattle.image.specs.Image.{emptyRecord}
 use Rattle.saving.specs.declared.Saved.{Saved}
 use Rattle.saving.specs.Stored.{storedAs, storedIn}
 use Rattle.saved.specs.declared.Loaded.{Loaded}
@@ -30,10 +31,6 @@ bufferAfter b out =
 abbrev pub sizedAs : Bench → Saved
 sizedAs b =
     if sound readWrite (viewed b) then record { answer = 0; count = length (textOf b) } else record { answer = 7; count = 0 }
-
--- an empty bench, as a record
-abbrev pub emptyRecord : Bench
-emptyRecord = record { parents = replicate 64 0; states = replicate 64 0; reads = replicate 128 0; writes = replicate 128 0 }
 
 -- a record that a text says: 7 and an empty bench where it isn't sound
 abbrev pub ifSound : Bench → Loaded

@@ -1,11 +1,14 @@
 // The saved form of a bench: its text, written into a lent buffer and read from lent bytes.
+pub mod in_place;
+
+use crate::in_place::load_image;
 use bench::Bench;
+use image;
 use marks::answers::ACCEPTED;
-use marks::answers::MALFORMED;
 use marks::answers::UNSOUND;
 use saving::Saved;
 ghost use mathlib.Core.Path.{_≡_};
-ghost use Rattle.saved.specs.Saved.{Saves, sizedAs, emptyRecord, ifSound, Loads};
+ghost use Rattle.saved.specs.Saved.{Saves, sizedAs, Loads};
 
 // What a load hands back: the bench and the answer's number.
 pub struct Loaded {
@@ -43,53 +46,16 @@ pub fn save(b: Bench, out: &mut [u8]) -> Saved
     saving::store_text(out, &b.parents, &b.states, &b.reads, &b.writes)
 }
 
-// What a refused load hands back: an empty bench and the answer's number.
-fn refused(answer: u8) -> Loaded
-    ensures { λ r. ⌜ r ≡ (record { bench = emptyRecord; answer = answer }) ⌝ }
-{
-    let bench = Bench {
-        parents: [0u8; 64],
-        states: [0u8; 64],
-        reads: [0u64; 128],
-        writes: [0u64; 128],
-    };
-    Loaded {
-        bench: bench,
-        answer: answer,
-    }
-}
-
-// A bench that a text says, where it is sound; else refused.
-fn checked(bench: Bench) -> Loaded
-    ensures { λ r. ⌜ r ≡ ifSound bench ⌝ }
-{
-    if bench.is_sound() {
-        return Loaded {
-            bench: bench,
-            answer: ACCEPTED,
-        };
-    }
-    refused(UNSOUND)
-}
-
 // The bench that a text says: 8 where it isn't well-shaped, then 7 where the bench isn't sound.
 pub fn load(text: &[u8]) -> Loaded
     ensures { λ r. ⌜ Loads (now (text .entry)) r ⌝ }
 {
-    let mut parents = [0u8; 64];
-    let mut states = [0u8; 64];
-    let mut reads = [0u64; 128];
-    let mut writes = [0u64; 128];
-    let behind = loading::read_actions(text, &mut parents, &mut states);
-    let end = loading::read_instruments(text, behind, &mut reads, &mut writes);
-    if end != text.len() {
-        return refused(MALFORMED);
+    let mut actions = [0u8; 128];
+    let mut owners = [0u64; 256];
+    let answer = load_image(&mut actions, &mut owners, text);
+    let bench = image::bench_of(&actions, &owners);
+    Loaded {
+        bench: bench,
+        answer: answer,
     }
-    let bench = Bench {
-        parents: parents,
-        states: states,
-        reads: reads,
-        writes: writes,
-    };
-    checked(bench)
 }

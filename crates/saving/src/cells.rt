@@ -1,4 +1,6 @@
 // Digits, frames, and what each number and each instrument adds to a text, written into a lent buffer.
+use crate::elements::byte_at;
+use crate::elements::word_at;
 use forms::ACTION_CODE;
 use forms::ACTION_DIGITS;
 use forms::INSTRUMENT_CODE;
@@ -88,19 +90,19 @@ fn put_frame(
 fn write_action<'a>(
     out: &mut [u8],
     at: usize,
-    parents: &'a [u8; 64],
-    states: &'a [u8; 64],
+    parents: &'a [u8],
+    states: &'a [u8],
     k: usize,
 ) -> usize
-    requires { ⌜ (k < 64) × (at + length (cellOf action (now parents) (now states) k) ≤ length (now out)) ⌝ }
+    requires { ⌜ at + length (cellOf action (now parents) (now states) k) ≤ length (now out) ⌝ }
     ensures { λ r. ⌜ Written (now (out .entry)) at (cellOf action (now (parents .entry)) (now (states .entry)) k) (now (out .exit)) r ⌝ }
 {
-    let state = states[k];
+    let state = byte_at(states, k);
     if state == 0 {
         return at;
     }
     let ss = state_digits(state);
-    let pp = parent_digits(parents[k], state);
+    let pp = parent_digits(byte_at(parents, k), state);
     put_frame(out, at, ACTION_DIGITS, ACTION_CODE, k as u64, ss, pp)
 }
 
@@ -108,15 +110,15 @@ fn write_action<'a>(
 fn write_instrument<'a>(
     out: &mut [u8],
     at: usize,
-    reads: &'a [u64; 128],
-    writes: &'a [u64; 128],
+    reads: &'a [u64],
+    writes: &'a [u64],
     i: usize,
 ) -> usize
-    requires { ⌜ (i < 128) × (at + length (cellOf instrument (now reads) (now writes) i) ≤ length (now out)) ⌝ }
+    requires { ⌜ at + length (cellOf instrument (now reads) (now writes) i) ≤ length (now out) ⌝ }
     ensures { λ r. ⌜ Written (now (out .entry)) at (cellOf instrument (now (reads .entry)) (now (writes .entry)) i) (now (out .exit)) r ⌝ }
 {
-    let read = reads[i];
-    let written = writes[i];
+    let read = word_at(reads, i);
+    let written = word_at(writes, i);
     if (read == 0) & (written == 0) {
         return at;
     }
@@ -135,8 +137,8 @@ fn write_instrument<'a>(
 pub(crate) fn write_actions<'a>(
     out: &mut [u8],
     from: usize,
-    parents: &'a [u8; 64],
-    states: &'a [u8; 64],
+    parents: &'a [u8],
+    states: &'a [u8],
 ) -> usize
     requires { ⌜ from + length (cellsFrom (cellOf action (now parents) (now states)) 64 0) ≤ length (now out) ⌝ }
     ensures { λ r. ⌜ Written (now (out .entry)) from (cellsFrom (cellOf action (now (parents .entry)) (now (states .entry))) 64 0) (now (out .exit)) r ⌝ }
@@ -152,8 +154,8 @@ pub(crate) fn write_actions<'a>(
 pub(crate) fn write_instruments<'a>(
     out: &mut [u8],
     from: usize,
-    reads: &'a [u64; 128],
-    writes: &'a [u64; 128],
+    reads: &'a [u64],
+    writes: &'a [u64],
 ) -> usize
     requires { ⌜ from + length (cellsFrom (cellOf instrument (now reads) (now writes)) 128 0) ≤ length (now out) ⌝ }
     ensures { λ r. ⌜ Written (now (out .entry)) from (cellsFrom (cellOf instrument (now (reads .entry)) (now (writes .entry))) 128 0) (now (out .exit)) r ⌝ }

@@ -1,5 +1,7 @@
-// The text of a bench: how long it is, and written into a lent buffer that has room for it.
+// The text of a bench: how long it is, and written into a lent buffer that has room for it. The bench is lent as four lists: the parents and states of the 64
+// numbers, and the read sets and write sets of the 128 instruments.
 mod cells;
+mod elements;
 mod lengths;
 
 use marks::answers::ACCEPTED;
@@ -19,7 +21,7 @@ pub struct Saved {
 }
 
 // The length of the whole text, whatever the parents.
-pub fn text_length<'a>(states: &'a [u8; 64], reads: &'a [u64; 128], writes: &'a [u64; 128]) -> usize
+pub fn text_length<'a>(states: &'a [u8], reads: &'a [u64], writes: &'a [u64]) -> usize
     ensures { λ r. ⌜ ((parents : List ℕ) →
         r ≡ length (textOf (record { parents = parents; states = now (states .entry); reads = now (reads .entry); writes = now (writes .entry) }))) ⌝ }
 {
@@ -29,10 +31,10 @@ pub fn text_length<'a>(states: &'a [u8; 64], reads: &'a [u64; 128], writes: &'a 
 // Writes the whole text at the buffer's start, and gives its length.
 fn write_text<'a>(
     out: &mut [u8],
-    parents: &'a [u8; 64],
-    states: &'a [u8; 64],
-    reads: &'a [u64; 128],
-    writes: &'a [u64; 128],
+    parents: &'a [u8],
+    states: &'a [u8],
+    reads: &'a [u64],
+    writes: &'a [u64],
 ) -> usize
     requires { ⌜ length (textOf (record { parents = now parents; states = now states; reads = now reads; writes = now writes })) ≤ length (now out) ⌝ }
     ensures { λ r. ⌜ Written (now (out .entry)) 0 (textOf (record {
@@ -49,10 +51,10 @@ fn write_text<'a>(
 // Writes the whole text at the buffer's start, where it has room for it; else nothing.
 pub fn store_text<'a>(
     out: &mut [u8],
-    parents: &'a [u8; 64],
-    states: &'a [u8; 64],
-    reads: &'a [u64; 128],
-    writes: &'a [u64; 128],
+    parents: &'a [u8],
+    states: &'a [u8],
+    reads: &'a [u64],
+    writes: &'a [u64],
 ) -> Saved
     ensures { λ r. ⌜ Stores (record {
       parents = now (parents .entry);

@@ -1,9 +1,8 @@
--- `dikothelm_image_empty` meets its contract: an image is stored into, other slices are left. Assumes nothing.
-use mathlib.Core.Path.{refl}
+-- `dikothelm_image_empty` meets its contract: an image is cleared, other slices are left. Assumes nothing.
 use borrow.Author.Needs.{needs}
-use Rattle.image.proofs.Images.{was-image, was-none}
-use Rattle.saved.specs.Saved.{emptyRecord}
-use Rattle.dikothelm.proofs.CallLaws.{none-replaced, image-replaced}
+use Rattle.image.specs.Image.{emptyRecord}
+use Rattle.image.proofs.Images.{was-image, was-none, none-stored}
+use Rattle.dikothelm.proofs.CallLaws.{stored-replaces}
 use Rattle.dikothelm.proofs.dikothelm_image_empty.Statement.{statement}
 use Rattle.dikothelm.proofs.dikothelm_image_empty.Tie as tie
 
@@ -20,10 +19,11 @@ returns : tie.Need-returns
 returns c =
     let f = c .before in
     let a = f .before .before .before .before .before .args in
-    none-replaced (a .actions .now) (a .owners .now) (was-none (f .is-image .result) (f .is-image .ensures) (c .if1 .taken)) 0 emptyRecord
+    let other = was-none (f .is-image .result) (f .is-image .ensures) (c .if1 .taken) in
+    stored-replaces (a .actions .now) (a .owners .now) 0 emptyRecord 7 (rw other) (none-stored emptyRecord (a .actions .now) (a .owners .now) other)
 
-store-requires : tie.Need-store-requires
-store-requires c κs = search needs
+clear-requires : tie.Need-clear-requires
+clear-requires c κs = search needs
 
 same-length-3 : tie.Need-same-length-3
 same-length-3 c = search needs
@@ -37,8 +37,8 @@ returns-2 c =
     let e = s .before .before .before in
     let f = e .before in
     let a = f .before .before .before .before .before .args in
-    image-replaced (a .actions .now) (a .owners .now) (was-image (f .is-image .result) (f .is-image .ensures) (e .if1 .left))
-    0 0 emptyRecord emptyRecord refl refl (s .store .ensures)
+    let image = was-image (f .is-image .result) (f .is-image .ensures) (e .if1 .left) in
+    stored-replaces (a .actions .now) (a .owners .now) 0 emptyRecord 0 (rw image) (s .clear .ensures)
 
 pub dikothelm-image-empty-spec : {M : Type 1} → statement M
 dikothelm-image-empty-spec =
@@ -48,7 +48,7 @@ dikothelm-image-empty-spec =
     same-length
     same-length-2
     returns
-    store-requires
+    clear-requires
     same-length-3
     same-length-4
     returns-2)

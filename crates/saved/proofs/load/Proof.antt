@@ -1,46 +1,41 @@
--- `load` meets its contract: from what the two reads took, a text with something left over is refused, and a text read whole gives what `checked` says
--- of its record. Assumes nothing.
+-- `load` meets its contract: the record of the image that the text was loaded into. Assumes nothing.
 use borrow.Author.Needs.{needs}
-use Rattle.forms.specs.WellShaped.{actionsIn, instrumentsIn}
-use Rattle.saved.proofs.SaidByText.{left-over, read-whole}
+use Rattle.saved.proofs.InPlaceLaws.{loaded-record}
 use Rattle.saved.proofs.load.Statement.{statement}
 use Rattle.saved.proofs.load.Tie as tie
 
-read-actions-requires : tie.Need-read-actions-requires
-read-actions-requires c κs = search needs
+slice-aggregate-load-image : tie.Need-slice-aggregate-load-image
+slice-aggregate-load-image c = search needs
 
-read-instruments-requires : tie.Need-read-instruments-requires
-read-instruments-requires c κs = search needs
+slice-aggregate-load-image-2 : tie.Need-slice-aggregate-load-image-2
+slice-aggregate-load-image-2 c = search needs
 
-refused-requires : tie.Need-refused-requires
-refused-requires c κs = search needs
+load-image-requires : tie.Need-load-image-requires
+load-image-requires c κs = search needs
+
+slice-aggregate-bench-of : tie.Need-slice-aggregate-bench-of
+slice-aggregate-bench-of c = search needs
+
+slice-aggregate-bench-of-2 : tie.Need-slice-aggregate-bench-of-2
+slice-aggregate-bench-of-2 c = search needs
+
+bench-of-requires : tie.Need-bench-of-requires
+bench-of-requires c κs = search needs
 
 returns : tie.Need-returns
-unfolding actionsIn instrumentsIn
 returns c =
-    let r = c .before .before in
-    let a = r .before .before .before in
-    rw (left-over (a .before .before .before .before .args .text .now) (a .read-actions .ensures) (r .read-instruments .ensures) (c .before .if1 .taken))
-    (c .refused .ensures)
-
-checked-requires : tie.Need-checked-requires
-checked-requires c κs = search needs
-
-returns-2 : tie.Need-returns-2
-unfolding actionsIn instrumentsIn
-returns-2 c =
-    let r = c .before .before in
-    let a = r .before .before .before in
-    rw (read-whole (a .before .before .before .before .args .text .now) (a .read-actions .ensures) (r .read-instruments .ensures) (c .before .if1 .left))
-    (c .checked .ensures)
+    let l = c .before .before .before .before .before in
+    let a = l .before .before .before .before .args in
+    loaded-record (a .text .now) (l .load-image .last .0) (l .load-image .last .1 .0) (l .load-image .result) (c .bench-of .result) (l .load-image .ensures) (c .bench-of .ensures)
 
 pub load-spec : {M : Type 1} → statement M
 load-spec =
     tie.close
     (tie.spec
-    read-actions-requires
-    read-instruments-requires
-    refused-requires
-    returns
-    checked-requires
-    returns-2)
+    slice-aggregate-load-image
+    slice-aggregate-load-image-2
+    load-image-requires
+    slice-aggregate-bench-of
+    slice-aggregate-bench-of-2
+    bench-of-requires
+    returns)

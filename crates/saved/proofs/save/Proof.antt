@@ -25,7 +25,7 @@ returns-2 : tie.Need-returns-2
 unfolding savedAs bufferAfter
 returns-2 c =
     let stored = c .before .before in
-    let left = stored .before .before .before .before .before .before .before in
+    let left = stored .before .before .before .before .before .before .before .before .before .before .before in
     let said = left .before .is-sound in
     let ok = sym (said .ensures) ∙ not-false (said .result) (left .if1 .left) in
     (rw ok (stored .store-text .ensures .0), rw ok (stored .store-text .ensures .1))

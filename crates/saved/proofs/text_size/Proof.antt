@@ -16,7 +16,7 @@ text-length-requires c κs = search needs
 
 returns-2 : tie.Need-returns-2
 returns-2 c =
-    let left = c .before .before .before .before .before in
+    let left = c .before .before .before .before .before .before .before .before in
     let said = left .before .is-sound in
     let b = left .before .before .args .t1 in
     rw (← said .ensures, not-false (said .result) (left .if1 .left), c .text-length .ensures (b .parents))

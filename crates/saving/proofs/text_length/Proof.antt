@@ -17,7 +17,7 @@ add-result c = search needs
 returns : tie.Need-returns
 returns c =
     λ parents.
-    let a = c .before .before .args in
+    let a = c .before .before .before .before .before .args in
     let first = c .before .actions-length .ensures .1 parents in
     let second = c .instruments-length .ensures .1 in
     omega (arith, text-length (record { parents = parents; states = a .states .now; reads = a .reads .now; writes = a .writes .now }))

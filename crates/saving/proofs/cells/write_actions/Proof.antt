@@ -18,7 +18,7 @@ loop-holds : tie.Need-loop-holds Inv-loop μ-loop
 loop-holds c = all-left
 
 write-action-requires : tie.Need-write-action-requires Inv-loop μ-loop
-write-action-requires c κs = let l = c .before .before in (search needs, room-left (l .loop .inv) (c .before .loop-test .taken) (l .before .before .pre))
+write-action-requires c κs = let l = c .before .before in room-left (l .loop .inv) (c .before .loop-test .taken) (l .before .before .before .before .pre)
 
 add-k : tie.Need-add-k Inv-loop μ-loop
 add-k c = search needs

@@ -18,7 +18,7 @@ loop-holds : tie.Need-loop-holds Inv-loop μ-loop
 loop-holds c = all-left
 
 write-instrument-requires : tie.Need-write-instrument-requires Inv-loop μ-loop
-write-instrument-requires c κs = let l = c .before .before in (search needs, room-left (l .loop .inv) (c .before .loop-test .taken) (l .before .before .pre))
+write-instrument-requires c κs = let l = c .before .before in room-left (l .loop .inv) (c .before .loop-test .taken) (l .before .before .before .before .pre)
 
 add-i : tie.Need-add-i Inv-loop μ-loop
 add-i c = search needs

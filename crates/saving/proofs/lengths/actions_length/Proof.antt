@@ -18,8 +18,8 @@ abbrev μ-loop : tie.MeasureT-loop
 loop-holds : tie.Need-loop-holds Inv-loop μ-loop
 loop-holds c = none-counted
 
-element-copy-out-cell-length : tie.Need-element-copy-out-cell-length Inv-loop μ-loop
-element-copy-out-cell-length c = search needs
+byte-at-requires : tie.Need-byte-at-requires Inv-loop μ-loop
+byte-at-requires c κs = search needs
 
 cell-length-requires : tie.Need-cell-length-requires Inv-loop μ-loop
 cell-length-requires c κs = search needs
@@ -34,12 +34,14 @@ loop-less : tie.Need-loop-less Inv-loop μ-loop
 loop-less c = search needs
 
 loop-again : tie.Need-loop-again Inv-loop μ-loop
-loop-again c = let l = c .before .before in one-counted (l .before .loop .inv) (l .loop-test .taken) (c .cell-length .ensures)
+loop-again c =
+    let read = c .before in
+    let l = read .before in one-counted (l .before .loop .inv) (l .loop-test .taken) (rw (read .byte-at .ensures) at (c .cell-length .ensures))
 
 returns : tie.Need-returns Inv-loop μ-loop
 returns c =
     let all = all-counted (c .before .loop .inv) (c .loop-test .left) in
-    let states = c .before .before .args .states .now in (all .0, λ parents. all .1 (cellOf action parents states) (cell-sized action parents states))
+    let states = c .before .before .before .args .states .now in (all .0, λ parents. all .1 (cellOf action parents states) (cell-sized action parents states))
 
 pub actions-length-spec : {M : Type 1} → statement M
 actions-length-spec =
@@ -48,7 +50,7 @@ actions-length-spec =
     Inv-loop
     μ-loop
     loop-holds
-    element-copy-out-cell-length
+    byte-at-requires
     cell-length-requires
     add-total
     add-k

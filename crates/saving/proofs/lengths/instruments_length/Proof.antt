@@ -17,17 +17,11 @@ abbrev μ-loop : tie.MeasureT-loop
 loop-holds : tie.Need-loop-holds Inv-loop μ-loop
 loop-holds c = none-counted
 
-mul-cell-length : tie.Need-mul-cell-length Inv-loop μ-loop
-mul-cell-length c = search needs
+word-at-requires : tie.Need-word-at-requires Inv-loop μ-loop
+word-at-requires c κs = search needs
 
-element-copy-out-cell-length : tie.Need-element-copy-out-cell-length Inv-loop μ-loop
-element-copy-out-cell-length c = search needs
-
-mul-cell-length-2 : tie.Need-mul-cell-length-2 Inv-loop μ-loop
-mul-cell-length-2 c = search needs
-
-element-copy-out-cell-length-2 : tie.Need-element-copy-out-cell-length-2 Inv-loop μ-loop
-element-copy-out-cell-length-2 c = search needs
+word-at-requires-2 : tie.Need-word-at-requires-2 Inv-loop μ-loop
+word-at-requires-2 c κs = search needs
 
 cell-length-requires : tie.Need-cell-length-requires Inv-loop μ-loop
 cell-length-requires c κs = search needs
@@ -42,12 +36,15 @@ loop-less : tie.Need-loop-less Inv-loop μ-loop
 loop-less c = search needs
 
 loop-again : tie.Need-loop-again Inv-loop μ-loop
-loop-again c = let l = c .before .before .before in one-counted (l .before .loop .inv) (l .loop-test .taken) (c .cell-length .ensures)
+loop-again c =
+    let w = c .before in
+    let l = w .before .before in
+    one-counted (l .before .loop .inv) (l .loop-test .taken) (rw (w .before .word-at .ensures, w .word-at2 .ensures) at (c .cell-length .ensures))
 
 returns : tie.Need-returns Inv-loop μ-loop
 returns c =
     let all = all-counted (c .before .loop .inv) (c .loop-test .left) in
-    let a = c .before .before .args in (all .0, all .1 (cellOf instrument (a .reads .now) (a .writes .now)) (cell-sized instrument (a .reads .now) (a .writes .now)))
+    let a = c .before .before .before .before .args in (all .0, all .1 (cellOf instrument (a .reads .now) (a .writes .now)) (cell-sized instrument (a .reads .now) (a .writes .now)))
 
 pub instruments-length-spec : {M : Type 1} → statement M
 instruments-length-spec =
@@ -56,10 +53,8 @@ instruments-length-spec =
     Inv-loop
     μ-loop
     loop-holds
-    mul-cell-length
-    element-copy-out-cell-length
-    mul-cell-length-2
-    element-copy-out-cell-length-2
+    word-at-requires
+    word-at-requires-2
     cell-length-requires
     add-total
     add-i
