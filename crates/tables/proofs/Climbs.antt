@@ -75,10 +75,10 @@ pub data Leads (up : ℕ → Option ℕ) (j : ℕ) : Option ℕ → Type 0 where
 
 module _ (up : ℕ → Option ℕ) where
   -- a number that leads to one whose chain ends, or to nobody
-  leads_ends : (reach j : ℕ) (at : Option ℕ) → Leads up j at → from at true (reaches_top reach up) ≡ true → Ends up j
+  leads_ends : (j reach : ℕ) (at : Option ℕ) → Leads up j at → from at true (reaches_top reach up) ≡ true → Ends up j
   unfolding reaches_top
-  leads_ends reach j at (parent e) h = (suc reach, rw e h)
-  leads_ends reach j at (farther y l e) h = leads_ends (suc reach) j (some y) l (rw e h)
+  leads_ends j reach at (parent e) h = (suc reach, rw e h)
+  leads_ends j reach at (farther y l e) h = leads_ends j (suc reach) (some y) l (rw e h)
 
   step_sooner : (n y x : ℕ) → up y ≡ some x → reaches_top n up y ≡ true → (m : ℕ) × (m < n) × (reaches_top m up x ≡ true)
   unfolding reaches_top
@@ -131,7 +131,7 @@ module _ (n : ℕ) (up : ℕ → Option ℕ) (rest : ℕ) where
   module _ (left : ℕ) (at : Option ℕ) (h : Climbing n up rest left at) where
     -- it has come to a number known to end, or past one without a parent
     pub climbing_ends : EndOutside n up rest → from at false (member rest) ≡ false → EndOutside n up left
-    climbing_ends ends out j l away = by_bool (member rest j) (λ is. leads_ends up there.0 j at (h.passed j is away) there.1) (ends j l)
+    climbing_ends ends out j l away = by_bool (member rest j) (λ is. leads_ends up j there.0 at (h.passed j is away) there.1) (ends j l)
       where
         there : (reach : ℕ) × (from at true (reaches_top reach up) ≡ true)
         there = by_parent at (λ e. (0, rw e)) (λ x e. let end = ends x (h.known x e) (rw e at out) in (end.0, rw e end.1))
