@@ -11,7 +11,7 @@ use trials::show;
 use trials::sums::{folded, folded_record};
 
 // Where the requests stand: the record that the last one left, the last drawn number, how often each answer was given, and the sum.
-#[derive(Drop)]
+#[derive(Clone, Copy)]
 struct Run {
     bench: Bench,
     x: u64,

@@ -5,7 +5,7 @@ use bench::Bench;
 use trials::draw::following;
 
 // A record, and the drawn number that was the last to go into it.
-#[derive(Drop)]
+#[derive(Clone, Copy)]
 pub(crate) struct Made {
     pub(crate) bench: Bench,
     pub(crate) x: u64,

@@ -4,7 +4,7 @@ use bench::Bench;
 use trials::draw::following;
 
 // A request by its trace code, its two numbers, of which the second may have no meaning, and the drawn number that was the last to go into it.
-#[derive(Drop)]
+#[derive(Clone, Copy)]
 pub(crate) struct Request {
     pub(crate) code: u64,
     pub(crate) first: u32,

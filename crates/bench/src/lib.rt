@@ -14,7 +14,7 @@ use marks::states::RUNNING;
 
 // Parents and states over 64 numbers, read and write sets over 128 instruments. A parent's byte is 0 for none and else one more than the parent's
 // number; a state's byte is 0 free, 1 running, 2 committed, 3 + h draining under number h, with which it was aborted; a set's bit k is number k.
-#[derive(Drop)]
+#[derive(Clone, Copy)]
 pub struct Bench {
     pub parents: [u8; 64],
     pub states: [u8; 64],
@@ -23,7 +23,7 @@ pub struct Bench {
 }
 
 // What a request hands back: the next bench and the answer's number.
-#[derive(Drop)]
+#[derive(Clone, Copy)]
 pub struct Reply {
     pub bench: Bench,
     pub answer: u8,

@@ -41,7 +41,7 @@ fn nth(kind: u8, n: u32) -> Request {
 }
 
 // The requests of a kind from the one numbered `first` to before the one numbered `end`.
-#[derive(Drop)]
+#[derive(Clone, Copy)]
 struct Part {
     kind: u8,
     first: u32,

@@ -73,7 +73,7 @@ pub(crate) fn full() -> Bench {
 }
 
 // A bench on a walk of drawn requests, and the last drawn number.
-#[derive(Drop)]
+#[derive(Clone, Copy)]
 pub(crate) struct Walk {
     pub(crate) bench: Bench,
     pub(crate) x: u64,

@@ -23,7 +23,7 @@ fn text_of(b: Bench) -> Text {
 }
 
 // Where the damage stands: the last drawn number, and what came of the texts.
-#[derive(Drop)]
+#[derive(Clone, Copy)]
 struct Run {
     x: u64,
     tally: Tally,

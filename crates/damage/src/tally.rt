@@ -4,7 +4,7 @@ use bench::Bench;
 use trials::show::{count, last_sum};
 use trials::sums::{folded, folded_record};
 
-#[derive(Drop)]
+#[derive(Clone, Copy)]
 pub(crate) struct Tally {
     pub(crate) accepted: u64,
     pub(crate) unsound: u64,

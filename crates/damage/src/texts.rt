@@ -3,7 +3,7 @@ use crate::draw::{byte_of, place_of};
 use trials::draw::following;
 
 // The first `count` bytes are the text's.
-#[derive(Drop)]
+#[derive(Clone, Copy)]
 pub(crate) struct Text {
     pub(crate) bytes: [u8; 512],
     pub(crate) count: usize,
@@ -155,7 +155,7 @@ fn times_of(kind: u64) -> u64 {
 }
 
 // What damage left of a text, and the last drawn number.
-#[derive(Drop)]
+#[derive(Clone, Copy)]
 pub(crate) struct Left {
     pub(crate) text: Text,
     pub(crate) x: u64,

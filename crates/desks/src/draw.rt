@@ -3,7 +3,7 @@ use lists::Request;
 use trials::draw::following;
 
 // A list, and the drawn number that was the last to go into it.
-#[derive(Drop)]
+#[derive(Clone, Copy)]
 pub(crate) struct Drawn {
     pub(crate) list: [Request; 32],
     pub(crate) x: u64,

@@ -13,7 +13,7 @@ use trials::show;
 use trials::sums::{folded, folded_record};
 
 // Where the calls stand: the record that the last one left, the last drawn number, how often each answer was given, and the sum.
-#[derive(Drop)]
+#[derive(Clone, Copy)]
 struct Run {
     bench: Bench,
     x: u64,

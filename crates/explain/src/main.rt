@@ -4,7 +4,7 @@
 use play::Player;
 
 // The player after a turn, and whether there may be more to explain.
-#[derive(Drop)]
+#[derive(Clone, Copy)]
 struct Played {
     player: Player,
     goes_on: bool,

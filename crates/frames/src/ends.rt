@@ -6,7 +6,7 @@ use crate::{Frame, frame_of, long_frame, no_frame, short_frame};
 use marks::bytes::wide;
 
 // The end of a line: its frame, and how many bytes of the input it takes; no bytes where no line ends.
-#[derive(Drop)]
+#[derive(Clone, Copy)]
 pub struct End {
     pub frame: Frame,
     pub size: usize,

@@ -8,7 +8,7 @@ ghost use Rattle.frames.specs.Frames.{among, no_frame, short_of, long_of, held_f
 use marks::codes::{ABORT, COMMIT, OPEN_SUB, OPEN_TOP, QUIET, READ, WRITE};
 
 // A frame's code, 0 where there is none, and its two numbers.
-#[derive(Drop)]
+#[derive(Clone, Copy)]
 pub struct Frame {
     pub code: u8,
     pub x: u32,

@@ -10,7 +10,7 @@ use marks::codes::{ABORT, COMMIT, OPEN_SUB, OPEN_TOP, QUIET, READ, WRITE};
 pub const LONGEST: usize = 32;
 
 // A request record: its kind, which is the frame's code, two numbers, a spare one ignored, and a place for the answer.
-#[derive(Drop)]
+#[derive(Clone, Copy)]
 pub struct Request {
     pub kind: u8,
     pub x: u32,
@@ -80,7 +80,7 @@ pub fn play_list(bench: Bench, list: &mut [Request]) -> Reply
 }
 
 // What a list by value hands back: the reply to the call, and the list with its answers.
-#[derive(Drop)]
+#[derive(Clone, Copy)]
 pub struct Played {
     pub reply: Reply,
     pub list: [Request; 32],

@@ -14,7 +14,7 @@ use offending::offending;
 
 // The answer, and whom it names: for 1 to 4 the offending number, for 5 the smallest running child, for 6 the smallest-numbered owner that blocks, with
 // whether it owns the instrument for reading and for writing and whether it drains, for 10 the action that isn't draining. 0, 7 and 8 name nobody.
-#[derive(Drop)]
+#[derive(Clone, Copy)]
 pub struct Reason {
     pub answer: u8,
     pub names: bool,

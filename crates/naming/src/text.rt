@@ -5,7 +5,7 @@ ghost use Rattle.naming.specs.Text.{two_digits, ways_text, drains_text, named_te
 use crate::Reason;
 
 // A text: `size` bytes, and behind them 0.
-#[derive(Drop)]
+#[derive(Clone, Copy)]
 pub struct Text {
     pub bytes: [u8; 23],
     pub size: usize,

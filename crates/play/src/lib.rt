@@ -14,7 +14,7 @@ use bench::Bench;
 
 // A trace player: a bench, and what is known of the line that has begun, `count` digits that write `value`; a count of 7 where no request can come of
 // it any more.
-#[derive(Drop)]
+#[derive(Clone, Copy)]
 pub struct Player {
     pub bench: Bench,
     pub count: u8,
@@ -22,7 +22,7 @@ pub struct Player {
 }
 
 // What feeding hands back: the player, how many bytes of the input were taken and how many were written.
-#[derive(Drop)]
+#[derive(Clone, Copy)]
 pub struct Fed {
     pub player: Player,
     pub used: usize,

@@ -15,7 +15,7 @@ use index::requests::request;
 use marks::answers::{MALFORMED, UNSOUND};
 
 // What is known of a line that has begun, how much has been taken and written, whether lines are told with their reasons, and whether the bench is sound.
-#[derive(Drop)]
+#[derive(Clone, Copy)]
 pub(crate) struct Place {
     pub count: u8,
     pub value: u32,

@@ -11,7 +11,7 @@ use marks::answers::{ACCEPTED, UNSOUND};
 use saving::Saved;
 
 // What a load hands back: the bench and the answer's number.
-#[derive(Drop)]
+#[derive(Clone, Copy)]
 pub struct Loaded {
     pub bench: Bench,
     pub answer: u8,

@@ -12,7 +12,7 @@ ghost use Rattle.saving.specs.Stored.{Stores};
 use marks::answers::{ACCEPTED, NO_ROOM};
 
 // What a save hands back: how many bytes it wrote, and the answer's number.
-#[derive(Drop)]
+#[derive(Clone, Copy)]
 pub struct Saved {
     pub count: usize,
     pub answer: u8,

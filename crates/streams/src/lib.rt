@@ -12,7 +12,7 @@ pub use marks::{done, failed, refused};
 use waits::again;
 
 // What came of reading: how many bytes stand at the buffer's start, and whether a read failed.
-#[derive(Drop)]
+#[derive(Clone, Copy)]
 pub struct Got {
     pub count: usize,
     pub failed: bool,

@@ -8,7 +8,7 @@ use crate::requests::asked;
 use bench::Bench;
 
 // A request as far as it has been read: its letter, 0 before there is one; the number before the comma and the one after it; and whether the comma has been passed.
-#[derive(Drop)]
+#[derive(Clone, Copy)]
 struct Reading {
     letter: u8,
     first: u64,
