@@ -1,6 +1,6 @@
 -- A family leaves the four arrays of a record, or drains in them. Assumes nothing.
 use mathlib.Core.Path.{◌≡◌, ◌∙◌}
-use mathlib.Core.Bool.{true, ◌&&◌}
+use mathlib.Core.Bool.{◌&&◌}
 use mathlib.Core.List.{List}
 use mathlib.Core.Option.{some}
 use Prim.Native.Nat.{ℕ, ◌%◌, ◌<◌, ◌^◌}

@@ -1,6 +1,6 @@
 -- Quiet by value: the row that was found is the answer of a sound bench, and the arrays that it leaves are the step's. Assumes nothing.
 use mathlib.Core.Path.{◌≡◌, refl, sym, ◌∙◌}
-use mathlib.Core.Bool.{Bool, true, false, not, ◌&&◌}
+use mathlib.Core.Bool.{true, false, ◌&&◌}
 use mathlib.Core.List.{List}
 use mathlib.Core.Option.{some}
 use Prim.Native.Nat.{ℕ, ◌+◌, ◌%◌, ◌<◌}
@@ -19,7 +19,6 @@ use Rattle.rules.specs.ReadWrite.{read_write}
 use Rattle.rules.proofs.Tests.{by_bool, and_right}
 use Rattle.tables.specs.Table.{Table}
 use Rattle.tables.specs.Owners.{stands_at}
-use Rattle.tables.specs.Changes.{Changed}
 use Rattle.tables.specs.OneWord.{left_at}
 use Rattle.tables.specs.Steps.{OutcomeIs}
 use Rattle.tables.proofs.Members.{meet_any}

@@ -1,7 +1,7 @@
 -- Frames, as both kinds share them: a frame is read as it was written, no frame of another code or number stands where it does, and a frame that
 -- stands in a text is the writing of what is read.
 use mathlib.Core.Path.{◌≡◌, refl, sym, ◌∙◌, ap}
-use mathlib.Core.Bool.{Bool, true, false, ◌&&◌}
+use mathlib.Core.Bool.{true, false, ◌&&◌}
 use mathlib.Core.List.{List, [], ◌∷◌, ◌++◌, append_assoc}
 use Prim.Native.Nat.{ℕ, suc, ◌+◌, ◌^◌, ◌<◌}
 use native.Mathlib.Nat.{add_assoc}

@@ -1,6 +1,6 @@
 -- Ends of lines that are found in the input, or not: what `next_end` gives with the values of all bytes is an end of a line, with its frame. Assumes nothing.
-use mathlib.Core.Path.{◌≡◌, refl, sym, ◌∙◌, subst}
-use mathlib.Core.Bool.{true, ◌&&◌}
+use mathlib.Core.Path.{refl}
+use mathlib.Core.Bool.{◌&&◌}
 use mathlib.Core.List.{List}
 use mathlib.Core.Option.{Option}
 use Prim.Native.Nat.{ℕ, ◌+◌, ◌-◌, ◌≤◌, ◌<◌}
@@ -14,7 +14,7 @@ use Rattle.rules.proofs.Tests.{by_bool, and_left, and_right}
 use Rattle.lines.specs.NextEnds.{EndsAs}
 use Rattle.lines.proofs.WholeLines.{short_whole, long_whole, begun_ends}
 use Rattle.frames.specs.declared.Frame.{Frame}
-use Rattle.frames.specs.Frames.{FrameOf, held_frame}
+use Rattle.frames.specs.Frames.{FrameOf}
 use Rattle.frames.specs.Ends.{no_end, pair_by, line_at, whole_line, begun_end, next_end, EndFound, NextEnd}
 use Rattle.frames.proofs.Framing.{none_framed, short_framed, long_framed, held_framed}
 use Rattle.frames.proofs.Values.{pair_of_lem}

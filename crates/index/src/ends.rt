@@ -4,7 +4,7 @@ ghost use Rattle.steps.specs.Arrays.{lent};
 ghost use Rattle.index.specs.Tables.{table};
 ghost use Rattle.index.specs.Kept.{stopped, left_parent, aborted_by, aborted_index, committed_by, EndKept};
 
-use crate::family::freed_in;
+use crate::kept_family::freed_in;
 use crate::places::{leave_places, places_of, still_in};
 use crate::{GROUPS, PLACES, RUNNING};
 use marks::answers::ACCEPTED;

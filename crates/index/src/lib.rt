@@ -3,7 +3,7 @@
 #![tactic(auto)]
 
 mod ends;
-mod family;
+mod kept_family;
 mod places;
 mod quiets;
 pub mod requests;

@@ -1,13 +1,13 @@
 -- What a frame says, put into the two halves of a list, and a loop that reads frames into one: its halves are what was taken.
-use mathlib.Core.Path.{◌≡◌, refl, sym, ◌∙◌}
+use mathlib.Core.Path.{◌≡◌, refl}
 use mathlib.Core.Bool.{true, false}
 use mathlib.Core.List.{List}
 use Prim.Native.Nat.{ℕ, ◌+◌, ◌<◌, ◌≤◌}
 use native.Mathlib.Omega.{arith}
-use lib.ListN.{length, set, take, drop}
+use lib.ListN.{length, set}
 use lib.Seq.{take-set-le, take-set-lt, drop-set-lt, drop-set-add}
 use Rattle.forms.specs.Kinds.{Kind, frame_size}
-use Rattle.forms.specs.WellShaped.{stands_at, first_in, second_in, take_of, take_from}
+use Rattle.forms.specs.WellShaped.{stands_at, first_in, second_in, take_of}
 use Rattle.loading.specs.Halves.{halves, ReadInto}
 use Rattle.loading.proofs.ReadTurns.{Left, left_none}
 

@@ -74,6 +74,7 @@ fn take_instrument(text: &[u8], at: usize, i: usize, owners: &mut [u64]) -> usiz
 }
 
 // Reads the frames of actions from the text's start; hands back where they end.
+#[inline(never)] // keeps the stack that the C header states
 pub fn read_actions(text: &[u8], actions: &mut [u8]) -> usize
     ensures { ReadInto action 64 text.now 0 actions.old result actions.new }
 {
@@ -88,6 +89,7 @@ pub fn read_actions(text: &[u8], actions: &mut [u8]) -> usize
 }
 
 // Reads the frames of instruments from place `from` on; hands back where they end.
+#[inline(never)] // keeps the stack that the C header states
 pub fn read_instruments(text: &[u8], from: usize, owners: &mut [u64]) -> usize
     ensures { ReadInto instrument 128 text.now from owners.old result owners.new }
 {

@@ -9,7 +9,6 @@ use native.Mathlib.Omega.{arith}
 use borrow.Author.Tests.{eqb-true, eqb-false, ltb-true, ltb-false, lt-ltb, ne_eqb, not-true}
 use lib.Dec.{eqb, ltb}
 use lib.ListN.{get_or}
-use Rattle.sets.specs.Sets.{member}
 use Rattle.rules.specs.Tests.{any, from}
 use Rattle.rules.specs.Bench as rules
 use Rattle.rules.specs.Owners.{is_ancestor, is_owner, is_asker_or_ancestor, drains_under}

@@ -26,6 +26,7 @@ fn takes(telling: bool, input: &[u8], out: &[u8]) -> usize
 
 impl Player {
     // Takes bytes of the input, of any size and cut anywhere, and writes a line for each line that ends in them.
+    #[inline(always)] // one copy of the player on the stack, as the C header states
     pub(crate) fn play(self, telling: bool, input: &[u8], out: &mut [u8]) -> Fed
         ensures { FedAsBy (say_by «telling») (width_by «telling») self input.now out.old result out.new }
     {
@@ -76,6 +77,7 @@ impl Player {
 
     // Takes bytes of the input, of any size and cut anywhere, and writes an answer line for each line that ends in them. What the output may lack room for
     // is not taken: `used` says how much was.
+    #[inline(always)] // as above
     pub fn feed(self, input: &[u8], out: &mut [u8]) -> Fed
         ensures { FedAs self input.now out.old result out.new }
     {

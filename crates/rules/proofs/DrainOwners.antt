@@ -1,17 +1,17 @@
 -- Owners that drain: an abort that drains hands all that the family owned to the aborted action, and quiet takes one instrument from it.
-use mathlib.Core.Path.{◌≡◌, refl, sym, ◌∙◌, ap}
-use mathlib.Core.Bool.{Bool, true, false, not, ◌&&◌, and-false, and-true}
-use mathlib.Core.Option.{none, some, none-ne-some, some-injective}
+use mathlib.Core.Path.{◌≡◌, sym, ◌∙◌, ap}
+use mathlib.Core.Bool.{Bool, true, false, not, ◌&&◌}
+use mathlib.Core.Option.{some, none-ne-some, some-injective}
 use Prim.Native.Nat.{ℕ, ◌<◌}
 use lib.Dec.{eqb}
-use borrow.Author.Tests.{eqb-true, eqb-false, eq-eqb, ne_eqb, not-true}
-use Rattle.rules.specs.Tests.{if◌then◌else◌, any, from}
+use borrow.Author.Tests.{eqb-true, eqb-false, ne_eqb, not-true}
+use Rattle.rules.specs.Tests.{any, from}
 use Rattle.rules.specs.Bench.{Shape, Bench, is_free, is_running, head_of}
 use Rattle.rules.specs.Owners.{in_family, heir, is_owner, drains_under, stand_at, stand_somewhere}
 use Rattle.rules.specs.Sound.{sound}
 use Rattle.rules.specs.Requests.{without, drained, quieted}
-use Rattle.rules.proofs.Tests.{by_bool, by_parent, clash, same, refuted, and_left, and_right, and_both, any_at, any_by, any_none, any_cong}
-use Rattle.rules.proofs.Facts.{SoundNumber, sound_facts, runs_in_tree, tree_headless, in_use_tree, under_head, stand_by, somewhere_by}
+use Rattle.rules.proofs.Tests.{by_bool, by_parent, clash, same, and_left, and_right, any_at, any_by, any_cong}
+use Rattle.rules.proofs.Facts.{SoundNumber, sound_facts, runs_in_tree, tree_headless, in_use_tree, under_head}
 use Rattle.rules.proofs.Walks.{heir_is, heir_drains, heir_found}
 use Rattle.rules.proofs.Family.{family_self}
 use Rattle.rules.proofs.Kept.{group_leaves, drain_keeps}

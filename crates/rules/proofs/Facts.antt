@@ -1,7 +1,7 @@
 -- What soundness says of each number, as facts, and back from the facts to the test.
 use mathlib.Core.Path.{◌≡◌, refl, sym, ◌∙◌, ap}
 use mathlib.Core.Bool.{Bool, true, false, not, ◌&&◌}
-use mathlib.Core.Option.{Option, none, some, none-ne-some}
+use mathlib.Core.Option.{none, some, none-ne-some}
 use Prim.Native.Nat.{ℕ, ◌<◌, ◌-◌}
 use lib.Dec.{ltb}
 use borrow.Author.Tests.{ltb-true, lt-ltb, not-true, eqb-true, eq-eqb}

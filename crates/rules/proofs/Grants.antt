@@ -1,16 +1,16 @@
 -- Reading and writing: the four entries of the table of conflicts, as document 01 has them, and the granting rule in its words, with no table: a read is
 -- granted exactly if every owner of the write set is the asker or an ancestor of it, a write exactly if every owner of both sets is.
-use mathlib.Core.Path.{◌≡◌, refl, ◌∙◌}
-use mathlib.Core.Bool.{Bool, true, false}
+use mathlib.Core.Path.{◌≡◌, refl}
+use mathlib.Core.Bool.{true, false}
 use mathlib.Core.Logic.{◌↔◌}
 use Prim.Native.Nat.{ℕ, ◌<◌}
 use native.Mathlib.Omega.{arith}
-use Rattle.rules.specs.Tests.{◌⇒◌, all, from}
-use Rattle.rules.specs.Bench.{Shape, Bench, is_free}
-use Rattle.rules.specs.Owners.{heir, is_asker_or_ancestor, heir_in_line, granted}
+use Rattle.rules.specs.Tests.{◌⇒◌, all}
+use Rattle.rules.specs.Bench.{Shape, Bench}
+use Rattle.rules.specs.Owners.{heir_in_line, granted}
 use Rattle.rules.specs.Sound.{sound}
 use Rattle.rules.specs.ReadWrite.{reading, writing, read_write}
-use Rattle.rules.specs.Moss.{Owner, OwnersInLine}
+use Rattle.rules.specs.Moss.{OwnersInLine}
 use Rattle.rules.proofs.Tests.{clash, by_last, implies, implied, all_at, all_by}
 use Rattle.rules.proofs.Walks.{heir_found}
 use Rattle.rules.proofs.SetForm.{standing_in_use}

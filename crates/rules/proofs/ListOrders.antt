@@ -2,7 +2,6 @@
 -- leave the same record. Either order of calls is a merging of the two (demand 3). Assumes nothing.
 use mathlib.Core.Path.{◌≡◌, refl, sym, ◌∙◌, ap}
 use mathlib.Core.List.{List, [], ◌∷◌, ◌++◌}
-use Prim.Native.Nat.{ℕ}
 use Rattle.rules.specs.Bench.{Shape, Bench, empty}
 use Rattle.rules.specs.Requests.{Request}
 use Rattle.rules.specs.Answers.{step, answers, after}

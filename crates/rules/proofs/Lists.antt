@@ -1,20 +1,19 @@
 -- Thirty-two requests in one call: what a call gives is what single calls in list order give. Nothing but the answer places changes, one call is as good as two, and a
 -- sound bench stays sound. Assumes nothing.
 use mathlib.Core.Path.{◌≡◌, refl, sym, ◌∙◌, ap, ap₂}
-use mathlib.Core.Bool.{Bool, true, false, ◌&&◌, ◌||◌}
+use mathlib.Core.Bool.{true, false, ◌||◌}
 use mathlib.Core.List.{List, [], ◌∷◌, ◌++◌, map}
 use mathlib.Core.Option.{Option, none, some}
 use Prim.Native.Nat.{ℕ, suc, ◌+◌, ◌<◌, ◌≤◌}
 use native.Mathlib.Omega.{arith}
-use borrow.Author.Tests.{lt-ltb, le-ltb, eq-eqb}
+use borrow.Author.Tests.{lt-ltb, le-ltb}
 use lib.Dec.{ltb, eqb}
 use lib.ListN.{length, get_or, drop, length-append}
-use Rattle.rules.specs.Tests.{if◌then◌else◌}
 use Rattle.rules.specs.Bench.{Shape, Bench}
 use Rattle.rules.specs.Sound.{sound}
 use Rattle.rules.specs.Requests.{Request}
-use Rattle.rules.specs.Answers.{Outcome, answer_of, step, answered, answers, after}
-use Rattle.rules.specs.Lists.{Entry, entry_request, with_answer, list_answered, after_list, Call, call}
+use Rattle.rules.specs.Answers.{answer_of, step, answered, answers, after}
+use Rattle.rules.specs.Lists.{Entry, entry_request, with_answer, list_answered, after_list, call}
 use Rattle.rules.specs.SingleCalls.{asked, requests_in, given, answers_in, is_request, others_hold, unsound_answer}
 use Rattle.rules.proofs.Tests.{by_bool, and_both}
 use Rattle.rules.proofs.Kept.{step_keeps_sound}

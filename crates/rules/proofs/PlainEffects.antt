@@ -1,6 +1,6 @@
 -- A sound bench and a plain machine that say the same still do after every request that is accepted.
 use mathlib.Core.Path.{◌≡◌, refl, sym, ◌∙◌, ap}
-use mathlib.Core.Bool.{Bool, true, false, not, ◌&&◌, ◌||◌, and-true, and-false}
+use mathlib.Core.Bool.{Bool, true, false, not, ◌&&◌, and-true, and-false}
 use mathlib.Core.List.{List, [], ◌∷◌}
 use mathlib.Core.Option.{Option, some, some-injective}
 use Prim.Native.Nat.{ℕ, ◌<◌}

@@ -49,6 +49,7 @@ fn write_text<'a>(
 }
 
 // Writes the whole text at the buffer's start, where it has room for it; else nothing.
+#[inline(never)] // keeps the stack that the C header states
 pub fn store_text<'a>(
     out: &mut [u8],
     parents: &'a [u8],

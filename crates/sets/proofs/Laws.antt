@@ -1,5 +1,5 @@
 -- The laws of sets: which numbers are members after each operation, when two words are the same set, inclusion, the least member and the order of words. Each holds at every width w, for words below 2 ^ w. Assumes nothing.
-use Rattle.std.proofs.Common.{◌≡◌, ℕ, zero, suc, ◌+◌, ◌-◌, ◌*◌, ◌/◌, ◌%◌, ◌^◌, ◌<◌, ◌≤◌, min, max, Bool, true, false, cond, not, ◌&&◌, ◌||◌, eqb, ltb, sym, refl, ap, ◌∙◌, ap₂, suc-le-suc, lt_of_lt_of_le, lt_of_le_of_lt, mod-lt, mod-eq_of_lt, zero-lt-suc, one-mul, pow-suc, div-one, mul-div_cancel, arith, pow_pos, pow_mono, ltb-false, ltb-true, le-ltb, lt-ltb, eq-eqb, eqb-true}
+use Rattle.std.proofs.Common.{◌≡◌, ℕ, zero, suc, ◌+◌, ◌-◌, ◌*◌, ◌/◌, ◌%◌, ◌^◌, ◌<◌, ◌≤◌, min, max, Bool, true, false, cond, not, ◌&&◌, ◌||◌, eqb, ltb, sym, refl, ap, ◌∙◌, suc-le-suc, lt_of_lt_of_le, lt_of_le_of_lt, mod-lt, mod-eq_of_lt, zero-lt-suc, one-mul, pow-suc, div-one, mul-div_cancel, arith, pow_pos, pow_mono, ltb-false, ltb-true, le-ltb, lt-ltb, eq-eqb, eqb-true}
 use mathlib.Core.Bool.{false≢true}
 use native.Mathlib.Nat.{zero-div, div-eq_of_lt, div-div-eq-div-mul, pow-succ', mul-mod_left}
 use lib.Dec.{eqb-suc-suc, eqb-suc-zero, eqb-zero-suc}

@@ -7,7 +7,7 @@ use native.Mathlib.Omega.{arith}
 use native.Mathlib.Nat.{mod-eq_of_lt}
 use borrow.Author.Tests.{eqb-true, eqb-false}
 use lib.Dec.{eqb}
-use lib.ListN.{length, get_or, length-map}
+use lib.ListN.{get_or, length-map}
 use Rattle.sets.specs.Sets.{member, difference}
 use Rattle.rules.specs.Requests.{commit, abort}
 use Rattle.rules.specs.Answers.{answer_of}

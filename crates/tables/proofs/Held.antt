@@ -11,7 +11,7 @@ use lib.Dec.{eqb}
 use lib.ListN.{get_or}
 use Rattle.sets.specs.Sets.{member, meet, least}
 use Rattle.sets.proofs.Laws.{member_empty}
-use Rattle.rules.specs.Tests.{◌⇒◌, from, all}
+use Rattle.rules.specs.Tests.{◌⇒◌, from}
 use Rattle.rules.specs.Bench.{is_running}
 use Rattle.rules.specs.Owners.{above, is_ancestor, is_asker_or_ancestor, nearest, heir, heir_in_line}
 use Rattle.rules.proofs.Tests.{by_bool, by_or, clash, implies, implied, refuted, all_at, all_by, all_cong}

@@ -1,6 +1,5 @@
 -- `quiet_answer` meets its contract: 7 where the soundness test fails, and else the row of those that drain under a and of the sets of the instrument. Assumes nothing.
-use mathlib.Core.Bool.{not}
-use mathlib.Core.Path.{ap, sym, ◌∙◌}
+use mathlib.Core.Path.{sym, ◌∙◌}
 use Rattle.answering.proofs.quiet_answer.Goals as goal
 
 pub returns-then-not-sound : goal.returns-then-not-sound

@@ -1,6 +1,6 @@
 -- `all_from` meets its contract. The loop's invariant: the words passed stand in the copy. Assumes nothing.
 use mathlib.Core.Path.{◌≡◌}
-use Prim.Native.Nat.{◌-◌, ◌≤◌}
+use Prim.Native.Nat.{◌≤◌}
 use lib.ListN.{take, drop, replicate}
 use lib.Seq.{sets}
 use Rattle.copies.proofs.all_from.Given as goal

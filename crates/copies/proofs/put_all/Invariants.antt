@@ -1,6 +1,6 @@
 -- `put_all` meets its contract. The loop's invariant: the words passed stand in the list. Assumes nothing.
 use mathlib.Core.Path.{◌≡◌}
-use Prim.Native.Nat.{◌-◌, ◌≤◌}
+use Prim.Native.Nat.{◌≤◌}
 use lib.ListN.{length, take}
 use lib.Seq.{sets}
 use Rattle.copies.proofs.put_all.Given as goal

@@ -8,7 +8,7 @@ use Rattle.tables.proofs.Sorting.{Climb}
 use Rattle.family.proofs.way_up.Given as goal
 
 abbrev pub invariant-loop-met : goal.invariant-loop-met
-invariant-loop-met l =    (l.x < 64) × (l.met < 2 ^ 64) × ((hit : ℕ → Bool) → Sorted hit (known_up l.parents) l.inside l.outside → Climb hit (known_up l.parents) l.inside l.outside l.k l.met l.x)
+invariant-loop-met l = (l.x < 64) × (l.met < 2 ^ 64) × ((hit : ℕ → Bool) → Sorted hit (known_up l.parents) l.inside l.outside → Climb hit (known_up l.parents) l.inside l.outside l.k l.met l.x)
 
 abbrev pub decreases-loop-met : goal.decreases-loop-met
 decreases-loop-met l = 2 ^ 64 - l.met

@@ -11,6 +11,6 @@ returns-then-value-lt16 c =
 pub returns : goal.returns
 returns c =
     elim c.else-count-lt6.branch [
-      else-count-lt6-via-then-count-lt6+else-value-lt16 w ↦ rw (ends_other c.args.count c.args.c w.value.result w.value.ensures (le-ltb w.value.result 16 w.if-value-lt16.false))
-    | else-count-lt6-via-else-count-lt6 w ↦ rw (ends_long c.args.count c.args.c w.if-count-lt6.false)
+      | else-count-lt6-via-then-count-lt6+else-value-lt16 w ↦ rw (ends_other c.args.count c.args.c w.value.result w.value.ensures (le-ltb w.value.result 16 w.if-value-lt16.false))
+      | else-count-lt6-via-else-count-lt6 w ↦ rw (ends_long c.args.count c.args.c w.if-count-lt6.false)
     ]

@@ -18,6 +18,6 @@ returns-then-d-lt16 c =
 pub returns : goal.returns
 returns c =
     elim c.else-count-lt6.branch [
-      else-count-lt6-via-then-count-lt6+else-d-lt16 w ↦ rw (ends_other c.args.count c.args.c c.value-d.result c.value-d.ensures (le-ltb c.value-d.result 16 w.if-d-lt16.false))
-    | else-count-lt6-via-else-count-lt6 w ↦ rw (ends_long c.args.count c.args.c w.if-count-lt6.false)
+      | else-count-lt6-via-then-count-lt6+else-d-lt16 w ↦ rw (ends_other c.args.count c.args.c c.value-d.result c.value-d.ensures (le-ltb c.value-d.result 16 w.if-d-lt16.false))
+      | else-count-lt6-via-else-count-lt6 w ↦ rw (ends_long c.args.count c.args.c w.if-count-lt6.false)
     ]

@@ -1,5 +1,4 @@
 -- `read_actions` meets its contract. The loop's invariant: taking the frames that are left gives what taking all of them gives. Assumes nothing.
-use Prim.Native.Nat.{◌-◌}
 use Rattle.forms.specs.Kinds.{action}
 use Rattle.loading.proofs.ReadHalves.{HalvesLeft}
 use Rattle.loading.proofs.read_actions.Given as goal

@@ -1,5 +1,4 @@
 use mathlib.Core.Path.{refl}
-use Prim.Native.Nat.{◌-◌}
 use borrow.Author.Rules.{rules}
 use Rattle.loading.proofs.ReadTurns.{left_all, left_less}
 use Rattle.loading.proofs.ReadHalves.{all_read, none_read}

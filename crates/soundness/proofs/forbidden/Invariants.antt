@@ -1,5 +1,5 @@
 -- `forbidden` meets its contract. The loop's invariant: what the numbers passed forbid stands in the table, moved up by one place. Assumes nothing.
-use Prim.Native.Nat.{◌≤◌, ◌-◌}
+use Prim.Native.Nat.{◌≤◌}
 use Rattle.tables.proofs.Bytes.{Shifted}
 use Rattle.tables.specs.Soundness.{forbids_of}
 use Rattle.soundness.proofs.forbidden.Given as goal

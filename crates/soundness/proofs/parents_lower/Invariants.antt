@@ -1,6 +1,6 @@
 -- `parents_lower` meets its contract. The loop's invariant: `ok` is the test of all numbers passed.
 -- Assumes nothing.
-use Prim.Native.Nat.{◌≤◌, ◌-◌}
+use Prim.Native.Nat.{◌≤◌}
 use lib.Dec.{leb}
 use lib.ListN.{get_or}
 use mathlib.Core.Path.{◌≡◌}

@@ -1,6 +1,6 @@
 -- `parents_stand` meets its contract. The loop's invariant: `broken` is 0 where no number passed is what its parent forbids; those not passed have no
 -- parent. Assumes nothing.
-use Prim.Native.Nat.{◌≤◌, ◌-◌}
+use Prim.Native.Nat.{◌≤◌}
 use lib.Dec.{eqb}
 use mathlib.Core.Path.{◌≡◌}
 use Rattle.rules.specs.Tests.{all}

@@ -1,6 +1,6 @@
 -- `standing` meets its contract. The loop's invariant: the numbers gathered are those that stand in a set passed.
 -- Assumes nothing.
-use Prim.Native.Nat.{ℕ, ◌≤◌, ◌-◌}
+use Prim.Native.Nat.{ℕ, ◌≤◌}
 use lib.ListN.{length, get_or}
 use mathlib.Core.Path.{◌≡◌}
 use Rattle.rules.specs.Tests.{any}

@@ -1,5 +1,4 @@
 -- `holder` meets its contract: each state has its own. Assumes nothing.
-use Prim.Native.Nat.{◌-◌}
 use native.Mathlib.Omega.{arith}
 use borrow.Author.Tests.{ne_eqb}
 use Rattle.tables.proofs.Owning.{holds_itself, holds_nothing, holds_for_head}

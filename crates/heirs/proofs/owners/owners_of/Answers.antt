@@ -1,4 +1,3 @@
-use Prim.Native.Nat.{◌-◌}
 use native.Mathlib.Omega.{arith}
 use Rattle.tables.proofs.Owning.{owning_start, owning_takes, owning_falls, owning_turn, owning_end}
 use Rattle.heirs.proofs.owners.owners_of.Goals as goal

@@ -1,7 +1,7 @@
 -- `frame_at` meets its contract. The loop's invariant: `ok` is the test of all places passed.
 -- Assumes nothing.
 use mathlib.Core.Path.{◌≡◌}
-use Prim.Native.Nat.{◌≤◌, ◌-◌}
+use Prim.Native.Nat.{◌≤◌}
 use Rattle.forms.specs.WellShaped.{digits_at}
 use Rattle.loading.proofs.fields.frame_at.Given as goal
 

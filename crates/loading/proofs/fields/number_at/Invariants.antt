@@ -1,7 +1,7 @@
 -- `number_at` meets its contract. The loop's invariant: `number` is what the digits passed write.
 -- Assumes nothing.
 use mathlib.Core.Path.{◌≡◌}
-use Prim.Native.Nat.{◌≤◌, ◌-◌}
+use Prim.Native.Nat.{◌≤◌}
 use Rattle.forms.specs.WellShaped.{number_at}
 use Rattle.loading.proofs.fields.number_at.Given as goal
 

@@ -3,7 +3,7 @@
 use mathlib.Core.Bool.{◌&&◌}
 use mathlib.Core.Option.{none}
 use mathlib.Core.Path.{◌≡◌}
-use Prim.Native.Nat.{◌≤◌, ◌-◌}
+use Prim.Native.Nat.{◌≤◌}
 use lib.Dec.{eqb}
 use lib.ListN.{get_or}
 use Rattle.rules.specs.Reasons.{smallest}

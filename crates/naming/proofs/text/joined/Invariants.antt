@@ -1,6 +1,6 @@
 -- `joined` meets its contract. The loop's invariant: the bytes passed stand behind the text. Assumes nothing.
 use mathlib.Core.Path.{◌≡◌}
-use Prim.Native.Nat.{◌-◌, ◌≤◌}
+use Prim.Native.Nat.{◌≤◌}
 use lib.ListN.{length, take}
 use lib.Seq.{sets}
 use Rattle.naming.proofs.text.joined.Given as goal

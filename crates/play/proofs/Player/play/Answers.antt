@@ -40,8 +40,8 @@ feed_bytes-place-requires c =
     c.sound-is_sound.result ≡ true → IndexIn (table b.parents b.states c.owners_of-owners.result c.if-is_sound.index) = λ is_sound. let b = c.args.self.bench in
     let owners = c.owners_of-owners.result in
     elim c.if-is_sound.branch [
-      then-is_sound w ↦ rw w.index-is (made_table b.reads b.writes owners (rw c.sound-is_sound.ensures at is_sound) w.index_of-index.ensures)
-    | else-is_sound w ↦ clash {P = IndexIn (table b.parents b.states owners c.if-is_sound.index)} c.sound-is_sound.result is_sound w.if-is_sound.false
+      | then-is_sound w ↦ rw w.index-is (made_table b.reads b.writes owners (rw c.sound-is_sound.ensures at is_sound) w.index_of-index.ensures)
+      | else-is_sound w ↦ clash {P = IndexIn (table b.parents b.states owners c.if-is_sound.index)} c.sound-is_sound.result is_sound w.if-is_sound.false
     ] in
     let a = c.args in (
       record {

@@ -11,10 +11,10 @@ use Rattle.play.specs.Places.{feeding_at}
 use Rattle.play.proofs.place.feed_bytes.Given as goal
 
 abbrev pub invariant-loop-place : goal.invariant-loop-place
-invariant-loop-place l =    Left (say_by l.initial.place.telling) (width_by l.initial.place.telling) (feeding_at (table l.initial.parents l.initial.states l.initial.owners l.initial.index) l.initial.place) l.input l.initial.out
+invariant-loop-place l = Left (say_by l.initial.place.telling) (width_by l.initial.place.telling) (feeding_at (table l.initial.parents l.initial.states l.initial.owners l.initial.index) l.initial.place) l.input l.initial.out
     (feeding_at (table l.parents l.states l.owners l.index) l.place) l.out l.place.written l.place.at
     × KnownTable l.place.sound (table l.parents l.states l.owners l.index)
     × (l.place.telling ≡ l.initial.place.telling)
 
 abbrev pub decreases-loop-place : goal.decreases-loop-place
-decreases-loop-place l =    length l.input - l.place.at
+decreases-loop-place l = length l.input - l.place.at

@@ -1,6 +1,5 @@
 -- `chains_end` meets its contract. The loop's invariant: the chains of the numbers that aren't left end. The measure is the set of those left, which falls
 -- with each climb that ends. Assumes nothing.
-use Prim.Native.Nat.{◌-◌}
 use Rattle.views.specs.Soundness.{EndOutside}
 use Rattle.soundness.proofs.chains.chains_end.Given as goal
 

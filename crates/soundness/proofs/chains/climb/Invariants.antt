@@ -1,6 +1,6 @@
 -- `climb` meets its contract. The loop's invariant: the numbers taken from `rest` lead to where the climb has come. The measure is the set that is left, which
 -- falls with each number taken. Assumes nothing.
-use Prim.Native.Nat.{◌-◌, ◌<◌, ◌≤◌}
+use Prim.Native.Nat.{◌<◌, ◌≤◌}
 use Rattle.tables.specs.Table.{parent_of}
 use Rattle.tables.specs.Tree.{up_of}
 use Rattle.tables.proofs.Climbs.{Climbing}

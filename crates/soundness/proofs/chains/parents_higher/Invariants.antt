@@ -1,6 +1,6 @@
 -- `parents_higher` meets its contract. The loop's invariant: `ok` is the test of all numbers passed.
 -- Assumes nothing.
-use Prim.Native.Nat.{◌≤◌, ◌-◌}
+use Prim.Native.Nat.{◌≤◌}
 use mathlib.Core.Path.{◌≡◌}
 use Rattle.rules.specs.Tests.{all}
 use Rattle.tables.specs.Climbs.{parent_higher}

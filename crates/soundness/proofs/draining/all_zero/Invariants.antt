@@ -1,5 +1,5 @@
 -- `all_zero` meets its contract. The loop's invariant: `broken` is 0 where the table has 0 for the bytes of all numbers passed. Assumes nothing.
-use Prim.Native.Nat.{◌≤◌, ◌-◌}
+use Prim.Native.Nat.{◌≤◌}
 use lib.Dec.{eqb}
 use lib.ListN.{get_or}
 use mathlib.Core.Path.{◌≡◌}

@@ -1,4 +1,3 @@
-use Prim.Native.Nat.{◌-◌}
 use borrow.Author.Rules.{rules}
 use mathlib.Core.Path.{◌≡◌}
 use native.Mathlib.Omega.{arith}
@@ -12,12 +11,11 @@ pub bounds-table-s : goal.bounds-table-s
 bounds-table-s c = omega arith
 
 pub loop-h-preserved : goal.loop-h-preserved
-loop-h-preserved c =
-    (
-      search rules,
-      rw c.wide.ensures
-          (heading_more 64 c.args.states.now c.args.missing.now c.loop-h.h c.loop-h.table c.loop-h-test.true c.loop-h.invariant.1),
-    )
+loop-h-preserved c = (
+  search rules,
+  rw c.wide.ensures
+      (heading_more 64 c.args.states.now c.args.missing.now c.loop-h.h c.loop-h.table c.loop-h-test.true c.loop-h.invariant.1),
+)
 
 pub returns : goal.returns
 returns c =

@@ -1,6 +1,6 @@
 -- `misfits` meets its contract. The loop's invariant: the table tells of the bytes that name the numbers passed.
 -- Assumes nothing.
-use Prim.Native.Nat.{◌≤◌, ◌-◌}
+use Prim.Native.Nat.{◌≤◌}
 use Rattle.tables.proofs.Told.{Heading}
 use Rattle.soundness.proofs.draining.misfits.Given as goal
 

@@ -1,5 +1,5 @@
 -- `has_child` meets its contract. The loop's invariant: `found` is the test of any of the numbers passed. Assumes nothing.
-use Prim.Native.Nat.{◌≤◌, ◌-◌}
+use Prim.Native.Nat.{◌≤◌}
 use mathlib.Core.Path.{◌≡◌}
 use lib.Dec.{eqb}
 use lib.ListN.{get_or}

@@ -1,5 +1,5 @@
 -- `running_child` meets its contract. The loop's invariant: `found` is the test of any of the numbers passed. Assumes nothing.
-use Prim.Native.Nat.{◌≤◌, ◌-◌}
+use Prim.Native.Nat.{◌≤◌}
 use mathlib.Core.Path.{◌≡◌}
 use mathlib.Core.Bool.{◌&&◌}
 use lib.Dec.{eqb}

@@ -1,4 +1,3 @@
-use Prim.Native.Nat.{◌-◌}
 use mathlib.Core.Path.{◌≡◌}
 use native.Mathlib.Omega.{arith}
 use borrow.Author.Rules.{rules}
@@ -33,10 +32,10 @@ loop-k-preserved c =
     let e = c.wide-up.ensures in (
       search rules,
       elim c.if-up.branch [
-        then-up w ↦
+        | then-up w ↦
             rw (w.children-is, w.with.ensures, e)
             (children_in 64 parents c.loop-k.children c.loop-k.k c.loop-k.invariant.1 c.loop-k-test.true (rw e at w.if-up.true))
-      | else-up w ↦
+        | else-up w ↦
             rw w.children-is (children_out 64 parents c.loop-k.children c.loop-k.k c.loop-k.invariant.1 (rw e at w.if-up.false))
       ],
     )

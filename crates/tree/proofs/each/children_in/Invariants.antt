@@ -1,5 +1,5 @@
 -- `children_in` meets its contract. The loop's invariant: at the place of each number stand those of its children that were passed. Assumes nothing.
-use Prim.Native.Nat.{◌≤◌, ◌-◌}
+use Prim.Native.Nat.{◌≤◌}
 use Rattle.tables.proofs.Gathering.{ChildrenTo}
 use Rattle.tree.proofs.each.children_in.Given as goal
 

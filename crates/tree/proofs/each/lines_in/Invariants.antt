@@ -1,6 +1,6 @@
 -- `lines_in` meets its contract. The loop's invariant: at the places passed stand the lines of their numbers.
 -- Assumes nothing.
-use Prim.Native.Nat.{◌≤◌, ◌-◌}
+use Prim.Native.Nat.{◌≤◌}
 use mathlib.Core.Path.{◌≡◌}
 use lib.ListN.{length}
 use Rattle.views.specs.Reach.{LinesMet}

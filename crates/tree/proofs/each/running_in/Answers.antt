@@ -1,4 +1,3 @@
-use Prim.Native.Nat.{◌-◌}
 use mathlib.Core.Path.{◌≡◌}
 use native.Mathlib.Omega.{arith}
 use borrow.Author.Rules.{rules}
@@ -19,11 +18,11 @@ loop-k-preserved c =
     let states = c.args.states.now in (
       search rules,
       elim c.if-states-k-eq-RUNNING.branch [
-        then-states-k-eq-RUNNING w ↦
+        | then-states-k-eq-RUNNING w ↦
             rw (w.running-is, w.with-running.ensures)
             (taken_in 64 (runs states) c.loop-k.running c.loop-k.k c.loop-k-test.true (eq-eqb (get_or states c.loop-k.k 0) 1 w.if-states-k-eq-RUNNING.true)
             c.loop-k.invariant.1)
-      | else-states-k-eq-RUNNING w ↦
+        | else-states-k-eq-RUNNING w ↦
             rw w.running-is
             (taken_out (runs states) c.loop-k.running c.loop-k.k (ne_eqb (get_or states c.loop-k.k 0) 1 w.if-states-k-eq-RUNNING.false) c.loop-k.invariant.1)
       ],

@@ -2,7 +2,7 @@
 -- places of the numbers of `gone`. The measure is how far `gone` lies below 2 ^ 64, since a number taken in makes the word larger. Assumes nothing.
 use Prim.Native.Nat.{◌-◌, ◌^◌}
 use Rattle.index.proofs.Families.{Gathering}
-use Rattle.index.proofs.family.family_in.Given as goal
+use Rattle.index.proofs.kept_family.family_in.Given as goal
 
 abbrev pub invariant-loop-rest : goal.invariant-loop-rest
 invariant-loop-rest l = Gathering l.index l.a l.gone l.rest

@@ -3,7 +3,7 @@ use mathlib.Core.Path.{◌∙◌}
 use borrow.Author.Rules.{rules}
 use Rattle.sets.proofs.Laws.{least_inside}
 use Rattle.index.proofs.Families.{gathering_start, gathering_turn, gathering_falls, gathering_end}
-use Rattle.index.proofs.family.family_in.Goals as goal
+use Rattle.index.proofs.kept_family.family_in.Goals as goal
 
 pub loop-rest-init : goal.loop-rest-init
 loop-rest-init c =

@@ -4,7 +4,7 @@ use mathlib.Core.Path.{sym, refl, ◌∙◌}
 use lib.ListN.{get_or}
 use Rattle.rules.proofs.Tests.{clash}
 use Rattle.views.specs.Arrays.{frees_by}
-use Rattle.index.proofs.family.freed_in.Goals as goal
+use Rattle.index.proofs.kept_family.freed_in.Goals as goal
 
 pub returns-then-frees : goal.returns-then-frees
 returns-then-frees c =
