@@ -1,11 +1,12 @@
 /* Input and output that fail, for a program that it is loaded into with LD_PRELOAD. The environment says how:
  *   FAULT_READ_AFTER, FAULT_READ_ERRNO    standard input gives so many bytes, and then fails with that error
  *   FAULT_WRITE_AFTER, FAULT_WRITE_ERRNO  standard output takes so many bytes, and then fails with that error; error 0: it takes nothing
- *   FAULT_CLOSE_ERRNO                     closing standard output fails with that error
+ *   FAULT_CLOSE_ERRNO                     the file of standard output fails with that error once all is written, as its last sync says
  *   FAULT_MOST                            no read or write moves more bytes than that
  *   FAULT_INTERRUPT                       every other read and write, the first one among them, is interrupted by a signal */
 #include <errno.h>
 #include <stdlib.h>
+#include <sys/stat.h>
 #include <sys/syscall.h>
 #include <sys/types.h>
 #include <unistd.h>
@@ -61,9 +62,15 @@ ssize_t write(int descriptor, const void *buffer, size_t count) {
     return put;
 }
 
-int close(int descriptor) {
-    int answer = (int)syscall(SYS_close, descriptor);
-    if (descriptor != STDOUT_FILENO || number("FAULT_CLOSE_ERRNO") < 0) return answer;
+/* Whether a descriptor is of the file that standard output writes to. */
+static int is_output(int descriptor) {
+    struct stat asked, written;
+    return fstat(descriptor, &asked) == 0 && fstat(STDOUT_FILENO, &written) == 0 && asked.st_dev == written.st_dev && asked.st_ino == written.st_ino;
+}
+
+int fsync(int descriptor) {
+    int answer = (int)syscall(SYS_fsync, descriptor);
+    if (number("FAULT_CLOSE_ERRNO") < 0 || !is_output(descriptor)) return answer;
     errno = (int)number("FAULT_CLOSE_ERRNO");
     return -1;
 }

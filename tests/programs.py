@@ -10,12 +10,13 @@ FORKS = os.environ.get("DIKOTHELM_FORKS")
 
 
 class Program:
-    """A program that reads standard input and writes standard output; both are files that every run uses again."""
+    """A program that reads standard input and writes standard output; both are files that every run uses again. Output is a file in memory, since a program
+    syncs its output, which takes long on a disk."""
 
     def __init__(self, path):
         self.path = path
         self.input = tempfile.TemporaryFile()
-        self.output = tempfile.TemporaryFile()
+        self.output = os.fdopen(os.memfd_create("output"), "w+b")
         self.stopped = Stopped(path, self.input.fileno(), self.output.fileno()) if FORKS else None
 
     def clear_output(self):

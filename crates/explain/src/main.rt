@@ -1,7 +1,10 @@
 // Explains a trace: lines on standard input, and for each on standard output its answer, whom that names, and for 6 how that one owns the instrument and
 // whether it drains. It starts from an empty bench; empty input gives empty output; it ends with its input. Where a read fails, the lines before it are explained
 // and a begun line is not; where a write fails, it stops.
+#![tactic(auto)]
+
 use play::Player;
+use std::rt::Runtime;
 
 // The player after a turn, and whether there may be more to explain.
 #[derive(Clone, Copy)]
@@ -11,30 +14,30 @@ struct Played {
 }
 
 // The end of the input: a last line that lacks its 0a is explained.
-fn ended(player: Player) {
+fn ended<R: Runtime>(rt: &R, player: Player) {
     let mut out = [0u8; 23];
     let finished = player.finish_explaining(&mut out);
     let written = finished.written;
-    if streams::write_whole(&out[..written]) {
-        streams::done();
+    if streams::write_whole(rt, &out[..written]) {
+        streams::done(rt);
     } else {
-        streams::failed();
+        streams::failed(rt);
     }
 }
 
 // Reads once, explains what came, and writes the reasons. Every byte has room for the reason of a line that it may end.
-fn turn(player: Player, input: &mut [u8], out: &mut [u8]) -> Played {
-    let got = streams::read_some(input);
+fn turn<R: Runtime>(rt: &R, player: Player, input: &mut [u8], out: &mut [u8]) -> Played {
+    let got = streams::read_some(rt, input);
     let n = got.count;
     if got.failed {
-        streams::failed();
+        streams::failed(rt);
         return Played {
             player: player,
             goes_on: false,
         };
     }
     if n == 0 {
-        ended(player);
+        ended(rt, player);
         return Played {
             player: player,
             goes_on: false,
@@ -43,9 +46,9 @@ fn turn(player: Player, input: &mut [u8], out: &mut [u8]) -> Played {
     let fed = player.explain(&input[..n], out);
     let written = fed.written;
     let next = fed.player;
-    let goes_on = streams::write_whole(&out[..written]);
+    let goes_on = streams::write_whole(rt, &out[..written]);
     if !goes_on {
-        streams::failed();
+        streams::failed(rt);
     }
     Played {
         player: next,
@@ -53,17 +56,16 @@ fn turn(player: Player, input: &mut [u8], out: &mut [u8]) -> Played {
     }
 }
 
-// A proved loop has to end, and nothing says that the input does: it counts its turns down, from a number that no run uses up.
-fn main() {
+// A proved loop has to end, and nothing says that the input does: it has more turns than any run takes.
+fn main(rt: HostRuntime) {
     let mut player = Player::new();
-    let mut turns = u64::MAX;
-    let mut goes_on = true;
     let mut input = [0u8; 8192];
     let mut out = [0u8; 188416];
-    while turns > 0 && goes_on {
-        turns -= 1;
-        let done = turn(player, &mut input, &mut out);
-        goes_on = done.goes_on;
+    for _ in 0..u64::MAX {
+        let done = turn(&rt, player, &mut input, &mut out);
         player = done.player;
+        if !done.goes_on {
+            break;
+        }
     }
 }

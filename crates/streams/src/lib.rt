@@ -1,14 +1,20 @@
 // Standard input and output for the programs. Input that ends is told apart from input that fails; a write is whole or failed; what failed is said on
-// standard error; and a program that was asked to ends with a mark on descriptor 3, since it has no exit status. A call that a signal interrupts is made
-// again; one that would block waits and is made again.
+// standard error; and a program that was asked to ends with a mark on descriptor 3, since its exit status is always 0. A call that a signal interrupts is
+// made again; one that would block waits and is made again.
+#![tactic(auto)]
+
 mod marks;
+mod messages;
 mod waits;
 
 ghost use Rattle.std.specs.Prelude.{◌≤◌, ◌≡◌, length};
+ghost use Rattle.std.specs.Io.{ReadsAtMost, WritesAtMost};
 ghost use Rattle.io.specs.Counts.{IsPrefixLen};
 
-use libc::{STDERR_FILENO, STDIN_FILENO, STDOUT_FILENO};
 pub use marks::{done, failed, refused};
+use messages::{say_error, say_untaken};
+use std::io::{Eprint, Error, ErrorKind, Input, Print, Read, Write, writer};
+use std::rt::Clock;
 use waits::again;
 
 // What came of reading: how many bytes stand at the buffer's start, and whether a read failed.
@@ -19,31 +25,40 @@ pub struct Got {
 }
 
 // One read of standard input into the buffer's start. A count of 0 that has not failed: the input has ended, or the buffer is empty.
-pub fn read_some(buffer: &mut [u8]) -> Got
+pub fn read_some<R: Input + Eprint + Clock>(rt: &R, buffer: &mut [u8]) -> Got
     ensures { IsPrefixLen result.count buffer.new }
 {
-    let mut turns = u64::MAX;
-    while turns > 0 {
-        turns -= 1;
-        let got = libc::read(STDIN_FILENO, buffer);
-        if got >= 0 {
-            return Got {
-                count: io::count(got, buffer),
-                failed: false,
-            };
-        }
-        if !again() {
-            return unread();
+    match read_once(rt, buffer) {
+        Ok(count) => Got {
+            count,
+            failed: false,
+        },
+        Err(error) => unread(rt, &error),
+    }
+}
+
+// One read of standard input, made again until it moves bytes, sees the end or fails for good.
+fn read_once<R: Input + Clock>(rt: &R, buffer: &mut [u8]) -> std::io::Result<usize>
+    ensures { ReadsAtMost result buffer.new }
+{
+    for _ in 0..u64::MAX {
+        match rt.reader().read(buffer) {
+            Ok(count) => return Ok(count),
+            Err(error) => {
+                if !again(rt, &error) {
+                    return Err(error);
+                }
+            }
         }
     }
-    unread()
+    Err(Error::from(ErrorKind::Interrupted))
 }
 
 // Says that a read failed.
-fn unread() -> Got
+fn unread<R: Eprint>(rt: &R, error: &Error) -> Got
     ensures { result.count ≡ 0 }
 {
-    os::fail(b"dikothelm: the input could not be read");
+    say_error(rt, "the input could not be read", error);
     Got {
         count: 0,
         failed: true,
@@ -51,12 +66,12 @@ fn unread() -> Got
 }
 
 // Reads standard input until the buffer is full, the input has ended or a read failed; what came before a failure is counted.
-pub fn read_full(buffer: &mut [u8]) -> Got
+pub fn read_full<R: Input + Eprint + Clock>(rt: &R, buffer: &mut [u8]) -> Got
     ensures { IsPrefixLen result.count buffer.new }
 {
     let mut filled = 0;
     while filled < buffer.len() {
-        let got = read_some(&mut buffer[filled..]);
+        let got = read_some(rt, &mut buffer[filled..]);
         let count = got.count;
         if got.failed {
             return Got {
@@ -79,57 +94,43 @@ pub fn read_full(buffer: &mut [u8]) -> Got
 }
 
 // Writes all of the bytes to standard output and answers true, or says on standard error why it could not.
-pub fn write_whole(bytes: &[u8]) -> bool {
+pub fn write_whole<R: Print + Eprint + Clock>(rt: &R, bytes: &[u8]) -> bool {
+    let mut output = writer(rt);
     let mut written = 0;
     while written < bytes.len() {
-        let put = write_some(STDOUT_FILENO, &bytes[written..]);
-        let count = put.count;
-        if put.failed {
-            unwritten();
-            return false;
+        match write_some(rt, &mut output, &bytes[written..]) {
+            Ok(0) => {
+                say_untaken(rt);
+                return false;
+            }
+            Ok(count) => written += count,
+            Err(error) => {
+                unwritten(rt, &error);
+                return false;
+            }
         }
-        if count == 0 {
-            untaken();
-            return false;
-        }
-        written += count;
     }
     true
 }
 
 // Says that a write failed.
-fn unwritten() {
-    os::fail(b"dikothelm: the output could not be written");
+fn unwritten<R: Eprint>(rt: &R, error: &Error) {
+    say_error(rt, "the output could not be written", error);
 }
 
-// Says that a write took nothing, which sets no errno.
-fn untaken() {
-    io::write_all(
-        STDERR_FILENO,
-        b"dikothelm: the output could not be written: nothing was taken\n",
-    );
-}
-
-// One write of bytes to a descriptor: how many were taken, and whether it failed.
-fn write_some(descriptor: i32, bytes: &[u8]) -> Got
-    ensures { result.count ≤ length bytes.now }
+// One write, made again until it moves bytes, takes nothing or fails for good: how many bytes were taken.
+fn write_some<R: Clock, W: Write>(rt: &R, to: &mut W, bytes: &[u8]) -> std::io::Result<usize>
+    ensures { WritesAtMost result bytes.now }
 {
-    let mut turns = u64::MAX;
-    while turns > 0 {
-        turns -= 1;
-        let put = libc::write(descriptor, bytes);
-        if put >= 0 {
-            return Got {
-                count: io::count(put, bytes),
-                failed: false,
-            };
-        }
-        if !again() {
-            break;
+    for _ in 0..u64::MAX {
+        match to.write(bytes) {
+            Ok(count) => return Ok(count),
+            Err(error) => {
+                if !again(rt, &error) {
+                    return Err(error);
+                }
+            }
         }
     }
-    Got {
-        count: 0,
-        failed: true,
-    }
+    Err(Error::from(ErrorKind::Interrupted))
 }

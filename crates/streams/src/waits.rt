@@ -1,25 +1,17 @@
 // Whether a call that failed is worth making again, and the wait before it.
-use libc::types::timespec;
+use std::io::{Error, ErrorKind};
+use std::rt::Clock;
+use std::thread;
+use std::time::Duration;
 
-// After a call that failed: whether it only was interrupted, or would have blocked, and then some time has passed. Otherwise errno is as it was.
-pub fn again() -> bool {
-    let error = os::errno();
-    if error == libc::EAGAIN {
-        pause();
-        return true;
+// After a call that failed: whether it only was interrupted, or would have blocked, and then a millisecond has passed.
+pub fn again<R: Clock>(rt: &R, error: &Error) -> bool {
+    match error.kind() {
+        ErrorKind::Interrupted => true,
+        ErrorKind::WouldBlock => {
+            thread::sleep(rt, Duration::from_millis(1));
+            true
+        }
+        _ => false,
     }
-    error == libc::EINTR
-}
-
-// Waits a millisecond, or until a signal comes.
-fn pause() {
-    let asked = timespec {
-        tv_sec: 0,
-        tv_nsec: 1000000,
-    };
-    let mut left = timespec {
-        tv_sec: 0,
-        tv_nsec: 0,
-    };
-    libc::nanosleep(&asked, &mut left);
 }
