@@ -4,7 +4,6 @@ use mathlib.Core.Bool.{true}
 use mathlib.Core.List.{List}
 use Prim.Native.Nat.{ℕ, ◌+◌, ◌<◌, ◌≤◌}
 use native.Mathlib.Nat.{zero-add}
-use native.Mathlib.Omega.{arith}
 use lib.ListN.{length, set, take, replicate, length-replicate, get_or-replicate, replicate-append-replicate}
 use lib.Seq.{sets, take_all}
 use Rattle.copies.proofs.CopyLaws.{copy_more, copy_whole}

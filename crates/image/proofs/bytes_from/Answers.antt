@@ -1,5 +1,5 @@
 use mathlib.Core.Path.{◌≡◌, refl, ◌∙◌, ap}
-use Prim.Native.Nat.{◌+◌, ◌-◌, ◌<◌}
+use Prim.Native.Nat.{◌+◌, ◌<◌}
 use native.Mathlib.Omega.{arith}
 use borrow.Author.Rules.{rules}
 use lib.ListN.{get_or, set, take, drop, replicate}

@@ -1,6 +1,6 @@
 -- `bytes_from` meets its contract. The loop's invariant: the bytes passed have been copied. Assumes nothing.
 use mathlib.Core.Path.{◌≡◌}
-use Prim.Native.Nat.{◌-◌, ◌≤◌}
+use Prim.Native.Nat.{◌≤◌}
 use lib.ListN.{take, drop, replicate}
 use lib.Seq.{sets}
 use Rattle.image.proofs.bytes_from.Given as goal

@@ -1,6 +1,6 @@
 -- `clear_bytes` meets its contract. The loop's invariant: the elements passed are cleared. Assumes nothing.
 use mathlib.Core.Path.{◌≡◌}
-use Prim.Native.Nat.{◌-◌, ◌≤◌}
+use Prim.Native.Nat.{◌≤◌}
 use lib.ListN.{length}
 use Rattle.image.proofs.Cleared.{cleared}
 use Rattle.image.proofs.clear_bytes.Given as goal

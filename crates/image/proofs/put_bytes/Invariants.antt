@@ -1,6 +1,6 @@
 -- `put_bytes` meets its contract. The loop's invariant: the bytes passed have been put. Assumes nothing.
 use mathlib.Core.Path.{◌≡◌}
-use Prim.Native.Nat.{◌-◌, ◌≤◌}
+use Prim.Native.Nat.{◌≤◌}
 use lib.ListN.{length, take}
 use lib.Seq.{sets}
 use Rattle.image.proofs.put_bytes.Given as goal

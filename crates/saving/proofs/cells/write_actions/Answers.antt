@@ -1,4 +1,3 @@
-use Prim.Native.Nat.{◌-◌}
 use Rattle.saving.proofs.WrittenCells.{all_left, room_left, one_less, none_left}
 use Rattle.saving.proofs.cells.write_actions.Goals as goal
 

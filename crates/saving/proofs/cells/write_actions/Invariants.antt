@@ -1,5 +1,4 @@
 -- `write_actions` meets its contract. The loop's invariant: what the numbers that are left add, written from `at` on, makes the whole text. Assumes nothing.
-use Prim.Native.Nat.{◌-◌}
 use Rattle.forms.specs.Kinds.{action}
 use Rattle.forms.specs.Text.{cell_of}
 use Rattle.saving.proofs.WrittenCells.{CellsLeft}

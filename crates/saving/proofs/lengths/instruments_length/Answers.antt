@@ -1,4 +1,3 @@
-use Prim.Native.Nat.{◌-◌}
 use Rattle.forms.specs.Kinds.{instrument}
 use Rattle.forms.specs.Text.{cell_of}
 use Rattle.saving.proofs.WrittenCells.{none_counted, one_counted, all_counted, cell_sized}

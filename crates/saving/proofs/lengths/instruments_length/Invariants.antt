@@ -1,5 +1,4 @@
 -- `instruments_length` meets its contract. The loop's invariant: what the instruments passed add is counted, at most 37 for each. Assumes nothing.
-use Prim.Native.Nat.{◌-◌}
 use Rattle.forms.specs.Kinds.{instrument}
 use Rattle.saving.proofs.WrittenCells.{Counted, bare_at}
 use Rattle.saving.proofs.lengths.instruments_length.Given as goal
