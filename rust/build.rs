@@ -13,7 +13,7 @@ fn main() {
     println!("cargo:rerun-if-changed={}", archive.display());
     if !archive.is_file() {
         println!("cargo:warning={} is not there, so nothing can be linked.", archive.display());
-        println!("cargo:warning=Prove and build it with `rt staticlib dikothelm` at the top of the repository,");
+        println!("cargo:warning=Prove and build it with `.ci/build archive` at the top of the repository,");
         println!("cargo:warning=or name the folder that has libdikothelm.a in the environment variable DIKOTHELM_LIB.");
     }
     println!("cargo:rustc-link-search=native={}", folder.display());

@@ -1,5 +1,7 @@
 // The answers to requests on the arrays of a record: 7 where the record isn't sound, and else the first row of document 01's table, or of document 02's for quiet, that
 // applies.
+#![tactic(auto)]
+
 pub mod standing;
 
 ghost use Rattle.std.specs.Prelude.{◌≡◌};

@@ -1,4 +1,6 @@
 // The bench: 64 action numbers, 128 instruments, seven requests by Moss's rules. The record, the opens, reads and writes; commit, abort and quiet are in `ends`.
+#![tactic(auto)]
+
 mod ends;
 
 ghost use Rattle.std.specs.Prelude.{◌≡◌};

@@ -1,5 +1,7 @@
 // Many requests in one call, for a caller that lends the bench's image and a list of request records as flat words: four words a record, which are its kind, its
 // two numbers and the place for its answer. The image is tested once for the whole list.
+#![tactic(auto)]
+
 ghost use Rattle.std.specs.Prelude.{◌≡◌, true, false};
 ghost use Rattle.rules.specs.Frames.{framed};
 ghost use Rattle.steps.specs.Arrays.{lent};

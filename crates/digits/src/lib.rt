@@ -1,4 +1,6 @@
 // Hexadecimal digits: 0 to 9 and a to f.
+#![tactic(auto)]
+
 ghost use Rattle.std.specs.Prelude.{◌≡◌, ◌%◌};
 ghost use Rattle.digits.specs.Digits.{hex_digit, digit_of, ValuesOfBytes};
 

@@ -1,5 +1,7 @@
 // The bench for C callers. The caller keeps the bench's image and lends it to each call: a pointer and a count to 128 bytes, the parents of the 64 numbers
 // and then their states, and to 256 words, the read sets of the 128 instruments and then the write sets. Nothing is kept between calls.
+#![tactic(auto)]
+
 mod feed;
 
 ghost use Rattle.std.specs.Prelude.{◌≡◌};

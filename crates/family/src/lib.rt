@@ -1,4 +1,6 @@
 // The family of an action, on any bytes of parents: itself and its descendants, in one set.
+#![tactic(auto)]
+
 ghost use Rattle.std.specs.Prelude.{◌≡◌, Bool, true, ◌&&◌, cond, ℕ, ◌+◌, ◌%◌, ◌≤◌, ◌<◌, leb, ltb, get_or};
 ghost use Rattle.rules.specs.Tests.{all};
 ghost use Rattle.sets.specs.Sets.{member};

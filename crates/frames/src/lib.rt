@@ -1,4 +1,6 @@
 // What a line that has begun writes: its digits one by one, and the frame that they make.
+#![tactic(auto)]
+
 pub mod ends;
 
 ghost use Rattle.std.specs.Prelude.{◌≡◌};

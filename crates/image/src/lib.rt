@@ -1,5 +1,7 @@
 // A bench's image, as a C caller lends it: 128 bytes, the parents of the 64 numbers and then their states, and 256 words, the read sets of the 128
 // instruments and then the write sets. Slices of other lengths are no image.
+#![tactic(auto)]
+
 ghost use Rattle.std.specs.Prelude.{◌≡◌, ◌++◌, true, ◌+◌, ◌≤◌, length, take, drop, replicate};
 ghost use Rattle.std.proofs.lemmas.List.Edits.{sets};
 ghost use Rattle.image.specs.Image.{is_image, sound_image, empty_record, record_of, StoredAs, actions_in, actions_stored, unsound_answer, Requested};

@@ -1,5 +1,7 @@
 // The index that is kept beside a bench's arrays, so that no line looks through them: how it is made, and the requests that keep it. It is 257 words: the children
 // of each number, each number with its ancestors, and the running numbers, all as sets; the group of each head, and the places at which each number may stand.
+#![tactic(auto)]
+
 mod ends;
 mod family;
 mod places;

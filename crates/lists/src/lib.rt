@@ -1,5 +1,7 @@
 // Thirty-two requests in one call (document 02, order 3): a list of request records is played, each on the bench that the one before it left, and each answer is
 // written into its place. The rules stand in the single request alone.
+#![tactic(auto)]
+
 ghost use Rattle.lists.specs.Listed.{ReturnsOne, ReturnsList};
 
 use bench::{Bench, Reply};

@@ -1,5 +1,7 @@
 // A saved text, read into the lists that its frames fill: the parents of the 64 numbers and then their states, and the read sets of the 128 instruments and
 // then the write sets.
+#![tactic(auto)]
+
 mod fields;
 
 ghost use Rattle.std.specs.Prelude.{◌≡◌, ◌<◌, length};

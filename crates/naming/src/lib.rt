@@ -1,5 +1,7 @@
 // Whom an answer names (document 02, orders 1 and 2): for a frame that got an answer, from the arrays that it left, and the line of text that says so. A refused
 // request leaves the record as it was, so that the reason can be looked for afterwards.
+#![tactic(auto)]
+
 mod blocking;
 mod offending;
 pub mod text;

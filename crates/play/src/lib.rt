@@ -1,4 +1,6 @@
 // The trace player: bytes of lines in, answers out, from an empty bench on.
+#![tactic(auto)]
+
 mod feed;
 mod finish;
 mod owners;

@@ -1,5 +1,7 @@
 // Who stands in the way (document 02, orders 1 and 2): a request's answer from a record, whom it names, and for 6 how that one owns the instrument and whether
 // it drains.
+#![tactic(auto)]
+
 mod frame;
 
 ghost use Rattle.std.specs.Prelude.{◌≡◌};

@@ -1,4 +1,6 @@
 // The rows of document 01's table, of any bytes: the first that applies is the answer. Those of quiet are in `quiet`.
+#![tactic(auto)]
+
 pub mod quiet;
 
 ghost use Rattle.std.specs.Prelude.{◌≡◌, ℕ};

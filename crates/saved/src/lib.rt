@@ -1,4 +1,6 @@
 // The saved form of a bench: its text, written into a lent buffer and read from lent bytes.
+#![tactic(auto)]
+
 pub mod in_place;
 
 ghost use Rattle.std.specs.Prelude.{◌≡◌};

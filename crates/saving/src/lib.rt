@@ -1,5 +1,7 @@
 // The text of a bench: how long it is, and written into a lent buffer that has room for it. The bench is lent as four lists: the parents and states of the 64
 // numbers, and the read sets and write sets of the 128 instruments.
+#![tactic(auto)]
+
 mod cells;
 mod elements;
 mod lengths;

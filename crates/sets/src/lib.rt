@@ -1,4 +1,6 @@
 // Machine words of 64 bits as sets of the numbers 0 to 63.
+#![tactic(auto)]
+
 ghost use Rattle.std.specs.Prelude.{◌≡◌};
 ghost use Rattle.sets.specs.Sets.{member, union, difference, within, meet, with, without, least};
 

@@ -1,4 +1,6 @@
 // The soundness test: rules 1 to 4 of document 01 on the arrays of a record, and the groups that drain. The chains of parents, which can be the dearest, come last.
+#![tactic(auto)]
+
 mod chains;
 mod draining;
 

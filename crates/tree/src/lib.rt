@@ -1,5 +1,7 @@
 // Going up the tree of actions from a number, on any bytes of parents and states. A climb stops at a number that has no parent, at a parent above 63, and
 // after 64 steps, so that rings of parents end it too.
+#![tactic(auto)]
+
 pub mod children;
 pub mod each;
 
