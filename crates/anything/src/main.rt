@@ -1,11 +1,14 @@
 // No bench record and no number in a request goes without its answer: 22,000 drawn requests of drawn records. Each line is for 1,000 of them: the
 // kind of records, how often the answers 0 to 7 and 10 were given, and a sum over every answer and every record handed back so far.
+#![tactic(auto)]
+
 mod draw;
 mod forests;
 mod records;
 mod requests;
 
 use bench::Bench;
+use std::io;
 use trials::requests::asked;
 use trials::show;
 use trials::sums::{folded, folded_record};
@@ -71,16 +74,17 @@ fn step(run: Run, kind: u64, turn: u64) -> Run {
 }
 
 // Writes the line of 1,000 requests.
-fn line(kind: u64, counts: [u64; 9], sum: u64) {
-    io::print_decimal(1, kind);
+fn line(rt: &impl Print, kind: u64, counts: [u64; 9], sum: u64) -> io::Result<()> {
+    print!(rt; "{kind}")?;
     for k in 0..9usize {
-        show::count(counts[k]);
+        show::count(rt, counts[k])?;
     }
-    show::last_sum(sum);
+    show::last_sum(rt, sum)?;
+    Ok(())
 }
 
 // 1,000 requests and their line.
-fn block(kind: u64, x: u64, sum: u64) -> Run {
+fn block(rt: &impl Print, kind: u64, x: u64, sum: u64) -> io::Result<Run> {
     let mut run = Run {
         bench: Bench::empty(),
         x: x,
@@ -91,24 +95,25 @@ fn block(kind: u64, x: u64, sum: u64) -> Run {
         run = step(run, kind, turn);
     }
     let counts = run.counts;
-    line(kind, counts, run.sum);
-    run
+    line(rt, kind, counts, run.sum)?;
+    Ok(run)
 }
 
 // Several times 1,000 requests.
-fn blocks(kind: u64, count: u64, start: Run) -> Run {
+fn blocks(rt: &impl Print, kind: u64, count: u64, start: Run) -> io::Result<Run> {
     let mut run = start;
     for k in 0..count {
-        run = block(kind, run.x, run.sum);
+        run = block(rt, kind, run.x, run.sum)?;
     }
-    run
+    Ok(run)
 }
 
-fn main() {
-    let random_bytes = block(0, 1, 0);
-    let few_numbers = blocks(1, 4, random_bytes);
-    let forests = blocks(2, 5, few_numbers);
-    let changed_forests = blocks(3, 4, forests);
-    let near_walks = blocks(4, 4, changed_forests);
-    blocks(5, 4, near_walks);
+fn main(rt: HostRuntime) -> io::Result<()> {
+    let random_bytes = block(&rt, 0, 1, 0)?;
+    let few_numbers = blocks(&rt, 1, 4, random_bytes)?;
+    let forests = blocks(&rt, 2, 5, few_numbers)?;
+    let changed_forests = blocks(&rt, 3, 4, forests)?;
+    let near_walks = blocks(&rt, 4, 4, changed_forests)?;
+    blocks(&rt, 5, 4, near_walks)?;
+    Ok(())
 }

@@ -1,8 +1,12 @@
 // What a request costs through the public methods, its soundness test included: a thousand requests of one kind, for an instruction count. The first
 // argument's first character says the kind; with a minus sign after it no request is made. benchmarks/cost runs both under callgrind and tells the difference.
+#![tactic(auto)]
+
 ghost use Rattle.std.specs.Prelude.{◌≤◌};
 
 use bench::Bench;
+use std::rt::Env;
+use std::{env, io};
 
 // 24 actions, four deep, that hold 30 instruments: tops 0 and 1, each other number k under (k - 2) / 2.
 fn busy() -> Bench {
@@ -126,11 +130,21 @@ fn requests(b: Bench, kind: u8, many: u32) -> u32 {
     sum
 }
 
-fn main() {
-    let mut word = [0u8; 8];
-    os::arg(1, &mut word);
+// The first argument's first two characters: 0 for one that it doesn't have.
+fn word(rt: &(impl Env + Alloc)) -> io::Result<[u8; 2]> {
+    let mut word = [0u8; 2];
+    if let Some(first) = env::args(rt)?.nth(1) {
+        let bytes = first.as_bytes();
+        for k in 0..bytes.len().min(2) {
+            word[k] = bytes[k];
+        }
+    }
+    Ok(word)
+}
+
+fn main(rt: HostRuntime) -> io::Result<()> {
+    let word = word(&rt)?;
     let kind = word[0];
     let many = count(word[1]);
-    io::print_decimal(1, requests(asked(kind), kind, many) as u64);
-    io::write_all(1, b"\n");
+    println!(rt; "{}", requests(asked(kind), kind, many))
 }

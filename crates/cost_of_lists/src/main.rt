@@ -1,10 +1,14 @@
 // What a request costs in a list, its soundness test included, for an instruction count: ten calls of a list whose first twelve places have requests of one kind, and
 // whose others have a kind that is no request's. The first argument's first character says the kind; with a minus sign after it no call is made. benchmarks/cost
 // runs them under callgrind. The kinds are those of `cost`, and so are the benches, which lists make.
+#![tactic(auto)]
+
 ghost use Rattle.std.specs.Prelude.{◌≤◌};
 
 use bench::Bench;
 use lists::Request;
+use std::rt::Env;
+use std::{env, io};
 
 fn request(kind: u8, x: u32, y: u32) -> Request {
     Request {
@@ -117,11 +121,21 @@ fn calls(kind: u8, many: u32) -> u32 {
     sum
 }
 
-fn main() {
-    let mut word = [0u8; 8];
-    os::arg(1, &mut word);
+// The first argument's first two characters: 0 for one that it doesn't have.
+fn word(rt: &(impl Env + Alloc)) -> io::Result<[u8; 2]> {
+    let mut word = [0u8; 2];
+    if let Some(first) = env::args(rt)?.nth(1) {
+        let bytes = first.as_bytes();
+        for k in 0..bytes.len().min(2) {
+            word[k] = bytes[k];
+        }
+    }
+    Ok(word)
+}
+
+fn main(rt: HostRuntime) -> io::Result<()> {
+    let word = word(&rt)?;
     let kind = word[0];
     let many = count(word[1]);
-    io::print_decimal(1, calls(kind, many) as u64);
-    io::write_all(1, b"\n");
+    println!(rt; "{}", calls(kind, many))
 }

@@ -3,6 +3,7 @@
 use crate::benches;
 use crate::tally::{Tally, none_yet, show, with_load_of_first};
 use bench::Bench;
+use std::io;
 
 // The text with one byte changed.
 fn with_change(tally: Tally, mut text: [u8; 5312], count: usize, place: usize, value: u8) -> Tally {
@@ -21,7 +22,7 @@ fn at_place(start: Tally, text: [u8; 5312], count: usize, place: usize) -> Tally
 }
 
 // The text of a bench, changed at each place that is a multiple of `stride`.
-fn changes_of(b: Bench, stride: usize, sum: u64) -> u64 {
+fn changes_of(rt: &impl Print, b: Bench, stride: usize, sum: u64) -> io::Result<u64> {
     let mut text = [0u8; 5312];
     let reply = saved::save(b, &mut text);
     let mut tally = none_yet(sum);
@@ -30,21 +31,21 @@ fn changes_of(b: Bench, stride: usize, sum: u64) -> u64 {
             tally = at_place(tally, text, reply.count, place);
         }
     }
-    show(reply.count as u64, tally);
-    tally.sum
+    show(rt, reply.count as u64, tally)?;
+    Ok(tally.sum)
 }
 
-pub(crate) fn changes(start: u64) -> u64 {
+pub(crate) fn changes(rt: &impl Print, start: u64) -> io::Result<u64> {
     let mut sum = start;
-    sum = changes_of(benches::one_top(), 1, sum);
-    sum = changes_of(benches::middle_of_the_trace(), 1, sum);
-    sum = changes_of(benches::both_ends(), 1, sum);
-    sum = changes_of(benches::two_groups(), 1, sum);
+    sum = changes_of(rt, benches::one_top(), 1, sum)?;
+    sum = changes_of(rt, benches::middle_of_the_trace(), 1, sum)?;
+    sum = changes_of(rt, benches::both_ends(), 1, sum)?;
+    sum = changes_of(rt, benches::two_groups(), 1, sum)?;
     let walk = benches::Walk {
         bench: Bench::empty(),
         x: 1,
     };
     let walked = benches::walked(walk, 100);
-    sum = changes_of(walked.bench, 1, sum);
-    changes_of(benches::full(), 41, sum)
+    sum = changes_of(rt, walked.bench, 1, sum)?;
+    changes_of(rt, benches::full(), 41, sum)
 }

@@ -3,6 +3,7 @@
 use crate::benches;
 use bench::Bench;
 use saving::Saved;
+use std::io;
 use trials::show::{count, last_sum};
 use trials::sums::folded_bytes;
 
@@ -26,18 +27,19 @@ fn save_into_first(b: Bench, buffer: &mut [u8], room: usize) -> Saved {
 }
 
 // Writes the line of a save.
-fn show(reply: Saved, buffer: [u8; 5320]) {
-    io::print_hex(1, reply.answer as u64, 2);
-    count(reply.count as u64);
-    count(unchanged(&buffer));
-    last_sum(folded_bytes(&buffer));
+fn show(rt: &impl Print, reply: Saved, buffer: [u8; 5320]) -> io::Result<()> {
+    print!(rt; "{:02x}", reply.answer)?;
+    count(rt, reply.count as u64)?;
+    count(rt, unchanged(&buffer))?;
+    last_sum(rt, folded_bytes(&buffer))?;
+    Ok(())
 }
 
 // A save into this many bytes.
-fn save_into(b: Bench, room: usize) {
+fn save_into(rt: &impl Print, b: Bench, room: usize) -> io::Result<()> {
     let mut buffer = [170u8; 5320];
     let reply = save_into_first(b, &mut buffer, room);
-    show(reply, buffer);
+    show(rt, reply, buffer)
 }
 
 // The full bench with its top action committed, which no request does.
@@ -47,19 +49,19 @@ fn unsound() -> Bench {
     b
 }
 
-pub(crate) fn edges() {
+pub(crate) fn edges(rt: &impl Print) -> io::Result<()> {
     let full = benches::full();
-    save_into(full, 5311);
-    save_into(full, 5312);
-    save_into(full, 5320);
-    save_into(full, 0);
-    save_into(Bench::empty(), 0);
-    save_into(Bench::empty(), 5320);
-    save_into(benches::one_top(), 8);
-    save_into(benches::one_top(), 9);
-    save_into(benches::both_ends(), 109);
-    save_into(benches::both_ends(), 110);
-    save_into(unsound(), 5320);
-    save_into(unsound(), 5311);
-    save_into(unsound(), 0);
+    save_into(rt, full, 5311)?;
+    save_into(rt, full, 5312)?;
+    save_into(rt, full, 5320)?;
+    save_into(rt, full, 0)?;
+    save_into(rt, Bench::empty(), 0)?;
+    save_into(rt, Bench::empty(), 5320)?;
+    save_into(rt, benches::one_top(), 8)?;
+    save_into(rt, benches::one_top(), 9)?;
+    save_into(rt, benches::both_ends(), 109)?;
+    save_into(rt, benches::both_ends(), 110)?;
+    save_into(rt, unsound(), 5320)?;
+    save_into(rt, unsound(), 5311)?;
+    save_into(rt, unsound(), 0)
 }

@@ -1,5 +1,7 @@
 // The saved form on both sides of its edges: save into buffers that are just long enough and just too short, load of texts with one byte changed,
 // and load of 104,000 texts of drawn benches with drawn damage.
+#![tactic(auto)]
+
 mod benches;
 mod changes;
 mod draw;
@@ -9,6 +11,7 @@ mod texts;
 
 use bench::Bench;
 use benches::Walk;
+use std::io;
 use tally::Tally;
 use texts::Text;
 
@@ -52,7 +55,7 @@ fn load_twenty(start: Run, b: Bench) -> Run {
 }
 
 // Texts of 200 benches on walks from an empty bench, 50 on each, two requests from one to the next, and their line.
-fn block(number: u64, start: Run) -> Run {
+fn block(rt: &impl Print, number: u64, start: Run) -> io::Result<Run> {
     let mut run = Run {
         x: start.x,
         tally: tally::none_yet(start.tally.sum),
@@ -68,18 +71,19 @@ fn block(number: u64, start: Run) -> Run {
         run = load_twenty(run, b);
     }
     let tally = run.tally;
-    tally::show(number, tally);
-    run
+    tally::show(rt, number, tally)?;
+    Ok(run)
 }
 
-fn main() {
-    edges::edges();
-    let sum = changes::changes(0);
+fn main(rt: HostRuntime) -> io::Result<()> {
+    edges::edges(&rt)?;
+    let sum = changes::changes(&rt, 0)?;
     let mut run = Run {
         x: 1,
         tally: tally::none_yet(sum),
     };
     for number in 1..27u64 {
-        run = block(number, run);
+        run = block(&rt, number, run)?;
     }
+    Ok(())
 }

@@ -1,6 +1,7 @@
 // What loading many texts gave: how often each answer came, how many of the accepted texts were saved again as they were, and a sum over every
 // answer and every record handed back.
 use bench::Bench;
+use std::io;
 use trials::show::{count, last_sum};
 use trials::sums::{folded, folded_record};
 
@@ -77,11 +78,12 @@ pub(crate) fn with_load_of_first(tally: Tally, buffer: &[u8], count: usize) -> T
 
 // Writes a line: how long the text was that the line is about, or which block it is, the counts of answers 0, 7 and 8, how many accepted texts
 // were saved again as they were, and the sum.
-pub(crate) fn show(of: u64, tally: Tally) {
-    io::print_decimal(1, of);
-    count(tally.accepted);
-    count(tally.unsound);
-    count(tally.malformed);
-    count(tally.saved_again);
-    last_sum(tally.sum);
+pub(crate) fn show(rt: &impl Print, of: u64, tally: Tally) -> io::Result<()> {
+    print!(rt; "{of}")?;
+    count(rt, tally.accepted)?;
+    count(rt, tally.unsound)?;
+    count(rt, tally.malformed)?;
+    count(rt, tally.saved_again)?;
+    last_sum(rt, tally.sum)?;
+    Ok(())
 }

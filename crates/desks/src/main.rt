@@ -1,12 +1,15 @@
 // Lists of 32 requests in one call, as desks send them: 240 drawn lists, each on the record that the one before left or on one with a byte changed, which is often
 // unsound. Each line is for 30 of them: how often the answers 0 to 10 stand in their places, and a sum over every list and every record handed back so far. Two lines
 // before them have the answers to every kind from 0 to 31, on an empty bench and on an unsound one.
+#![tactic(auto)]
+
 mod draw;
 mod sums;
 
 use bench::Bench;
 use draw::drawn_list;
 use lists::Request;
+use std::io;
 use sums::folded_list;
 use trials::draw::following;
 use trials::show;
@@ -64,16 +67,17 @@ fn step(run: Run) -> Run {
 }
 
 // Writes the line of 30 calls.
-fn line(first: u64, counts: [u64; 11], sum: u64) {
-    io::print_decimal(1, first);
+fn line(rt: &impl Print, first: u64, counts: [u64; 11], sum: u64) -> io::Result<()> {
+    print!(rt; "{first}")?;
     for k in 0..11usize {
-        show::count(counts[k]);
+        show::count(rt, counts[k])?;
     }
-    show::last_sum(sum);
+    show::last_sum(rt, sum)?;
+    Ok(())
 }
 
 // 30 calls and their line, which begins with the number of the first.
-fn block(first: u64, b: Bench, x: u64, sum: u64) -> Run {
+fn block(rt: &impl Print, first: u64, b: Bench, x: u64, sum: u64) -> io::Result<Run> {
     let mut run = Run {
         bench: b,
         x: x,
@@ -84,12 +88,12 @@ fn block(first: u64, b: Bench, x: u64, sum: u64) -> Run {
         run = step(run);
     }
     let counts = run.counts;
-    line(first, counts, run.sum);
-    run
+    line(rt, first, counts, run.sum)?;
+    Ok(run)
 }
 
 // Writes the answers to the kinds 0 to 31, each with the numbers 0 and 4,294,967,295, of which the second is far outside.
-fn every_kind(b: Bench) {
+fn every_kind(rt: &impl Print, b: Bench) -> io::Result<()> {
     let mut list = [draw::request(0, 0, 4294967295); 32];
     for k in 0..32u8 {
         list[k as usize] = draw::request(k, 0, 4294967295);
@@ -98,23 +102,24 @@ fn every_kind(b: Bench) {
     let after = played.list;
     for k in 0..32usize {
         let q = after[k];
-        io::print_hex(1, q.answer as u64, 2);
+        print!(rt; "{:02x}", q.answer)?;
     }
-    io::write_all(1, b"\n");
+    println!(rt)
 }
 
-fn main() {
-    every_kind(Bench::empty());
+fn main(rt: HostRuntime) -> io::Result<()> {
+    every_kind(&rt, Bench::empty())?;
     let mut unsound = Bench::empty();
     unsound.states[5] = 2;
-    every_kind(unsound);
+    every_kind(&rt, unsound)?;
     let mut b = Bench::empty();
     let mut x = 1u64;
     let mut sum = 0u64;
     for k in 0..8u64 {
-        let run = block(k * 30, b, x, sum);
+        let run = block(&rt, k * 30, b, x, sum)?;
         b = run.bench;
         x = run.x;
         sum = run.sum;
     }
+    Ok(())
 }

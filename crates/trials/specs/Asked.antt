@@ -1,8 +1,7 @@
 -- Requests by the codes of trace lines.
-use Rattle.std.specs.Prelude.{ℕ, eqb}
+use Rattle.std.specs.Prelude.{ℕ, eqb, if◌then◌else◌}
 use Rattle.rules.specs.Requests.{Request, open_top, open_sub, commit, abort, quiet}
 use Rattle.rules.specs.ReadWrite.{read, write}
-use Rattle.rules.specs.Tests.{if◌then◌else◌}
 
 -- The request of a code and two numbers, of which the second may have no meaning: 1 open top, 2 open sub, 3 read, 4 write, 5 commit, 6 abort, and any other
 -- quiet.

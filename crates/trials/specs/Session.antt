@@ -1,6 +1,5 @@
 -- Sessions as text: what a text asks for, character by character, and the bench after it.
-use Rattle.std.specs.Prelude.{Bool, true, false, List, [], ◌∷◌, ℕ, ◌+◌, ◌*◌, ◌%◌, eqb, leb, ltb}
-use Rattle.rules.specs.Tests.{if◌then◌else◌}
+use Rattle.std.specs.Prelude.{true, false, List, [], ◌∷◌, ℕ, ◌+◌, ◌*◌, ◌%◌, eqb, leb, ltb, if◌then◌else◌}
 use Rattle.rules.specs.Bench.{Bench}
 use Rattle.rules.specs.Requests.{Request}
 use Rattle.rules.specs.Answers.{step}

@@ -1,7 +1,6 @@
 -- The sums that the test programs write: a value, a word, a record and a buffer folded into a sum so far.
-use Rattle.std.specs.Prelude.{Bool, ◌&&◌, List, ℕ, zero, suc, ◌+◌, ◌*◌, ◌/◌, ◌%◌, eqb, length, get_or}
+use Rattle.std.specs.Prelude.{Bool, ◌&&◌, List, ℕ, zero, suc, ◌+◌, ◌*◌, ◌/◌, ◌%◌, eqb, length, get_or, if◌then◌else◌}
 use Rattle.bench.specs.declared.Bench.{Bench}
-use Rattle.rules.specs.Tests.{if◌then◌else◌}
 
 -- The sum with a further value; 4,294,967,291 is a prime.
 abbrev pub with_value : ℕ → ℕ → ℕ

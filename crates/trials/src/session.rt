@@ -1,11 +1,12 @@
 // Sessions as text: requests with one space between, each a letter and its numbers in decimal, with a comma between them. The letters are t open top, s open sub, r read,
-// w write, c commit, a abort and q quiet.
-ghost use Rattle.std.specs.Prelude.{◌≡◌};
+// w write, c commit, a abort and q quiet. A write that fails ends the session with its error.
+ghost use Rattle.std.specs.Prelude.{◌≡◌, IfOk};
 ghost use Rattle.bench.specs.Record.{viewed};
 ghost use Rattle.trials.specs.Session.{code_of, grown, begun, read_on, after_read, after_character, after_text};
 
 use crate::requests::asked;
 use bench::Bench;
+use std::io;
 
 // A request as far as it has been read: its letter, 0 before there is one; the number before the comma and the one after it; and whether the comma has been passed.
 #[derive(Clone, Copy)]
@@ -95,11 +96,11 @@ fn read_on(r: Reading, c: u8) -> Reading
 }
 
 // The bench after the request that has been read, whose answer is written; where none has, the same bench.
-fn after_read(b: Bench, r: Reading) -> Bench
-    ensures { viewed result ≡ after_read (viewed b) r }
+fn after_read(rt: &impl Print, b: Bench, r: Reading) -> io::Result<Bench>
+    ensures { IfOk result (λ next. viewed next ≡ after_read (viewed b) r) }
 {
     if r.letter == 0 {
-        return b;
+        return Ok(b);
     }
     let reply = asked(
         b,
@@ -107,37 +108,37 @@ fn after_read(b: Bench, r: Reading) -> Bench
         (r.first % 4294967296) as u32,
         (r.second % 4294967296) as u32,
     );
-    io::print_hex(1, reply.answer as u64, 2);
-    reply.bench
+    print!(rt; "{:02x}", reply.answer)?;
+    Ok(reply.bench)
 }
 
 // The bench after a further character: a space or the end of a line ends the request, and is written after its answer.
-fn after_character(b: Bench, r: Reading, c: u8) -> Bench
-    ensures { viewed result ≡ after_character (viewed b) r c }
+fn after_character(rt: &impl Print, b: Bench, r: Reading, c: u8) -> io::Result<Bench>
+    ensures { IfOk result (λ next. viewed next ≡ after_character (viewed b) r c) }
 {
     if b' ' < c {
-        return b;
+        return Ok(b);
     }
-    let next = after_read(b, r);
-    io::write_all(1, &[c]);
-    next
+    let next = after_read(rt, b, r)?;
+    rt.write_all(&[c])?;
+    Ok(next)
 }
 
 // Plays the requests of a text from a bench on, and writes the text with an answer in the place of each request.
-pub fn played(start: Bench, text: &[u8]) -> Bench
-    ensures { viewed result ≡ after_text (viewed start) (begun 0) text.now }
+pub fn played(rt: &impl Print, start: Bench, text: &[u8]) -> io::Result<Bench>
+    ensures { IfOk result (λ last. viewed last ≡ after_text (viewed start) (begun 0) text.now) }
 {
     let mut b = start;
     let mut r = begun(0);
     for k in 0..text.len() {
-        b = after_character(b, r, text[k]);
+        b = after_character(rt, b, r, text[k])?;
         r = read_on(r, text[k]);
     }
-    after_read(b, r)
+    after_read(rt, b, r)
 }
 
 // Plays a session from an empty bench, and writes it as a line.
-pub fn session(text: &[u8]) {
-    played(Bench::empty(), text);
-    io::write_all(1, b"\n");
+pub fn session(rt: &impl Print, text: &[u8]) -> io::Result<()> {
+    played(rt, Bench::empty(), text)?;
+    println!(rt)
 }
