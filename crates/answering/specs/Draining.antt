@@ -1,7 +1,6 @@
 -- The state's byte of numbers that were aborted, and the answer to quiet, by numbers that are handed over.
-use Rattle.std.specs.Prelude.{List, ◌≡◌, ℕ, ◌%◌, get_or}
+use Rattle.std.specs.Prelude.{List, ◌≡◌, ℕ, ◌%◌, get_or, if◌then◌else◌}
 use Rattle.sets.specs.Sets.{union, meet}
-use Rattle.rules.specs.Tests.{if◌then◌else◌}
 use Rattle.rules.specs.Sound.{sound}
 use Rattle.rules.specs.ReadWrite.{read_write}
 use Rattle.views.specs.Owners.{Standing}

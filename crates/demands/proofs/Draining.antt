@@ -1,11 +1,12 @@
 -- What the methods return to abort and quiet, in document 02's words, and that who drains keeps others from its instruments. Assumes nothing.
+use Rattle.std.specs.Prelude.{if◌then◌else◌}
 use mathlib.Core.Path.{◌≡◌, refl, sym, ◌∙◌, ap, fun_ext}
 use mathlib.Core.Bool.{Bool, true, false, not, ◌&&◌, and-true, and-false, false≢true}
 use mathlib.Core.Option.{none}
 use Prim.Native.Nat.{ℕ, ◌<◌}
 use native.Mathlib.Omega.{arith}
 use lib.Dec.{eqb}
-use Rattle.rules.specs.Tests.{if◌then◌else◌, any}
+use Rattle.rules.specs.Tests.{any}
 use Rattle.rules.specs.Bench as rules
 use Rattle.rules.specs.Bench.{State, free, draining, in_tree}
 use Rattle.rules.specs.Owners.{is_ancestor, stand_at, stand_somewhere}

@@ -1,7 +1,6 @@
 -- Abort and quiet in document 02's words, over records: an aborted subtree leaves the tree, and a group that drains leaves the sets of an instrument.
-use Rattle.std.specs.Prelude.{Bool, true, false, not, ◌&&◌, ◌≡◌, ℕ, ◌<◌, eqb}
+use Rattle.std.specs.Prelude.{Bool, true, false, not, ◌&&◌, ◌≡◌, ℕ, ◌<◌, eqb, if◌then◌else◌}
 use Rattle.std.proofs.Math.Option.{none}
-use Rattle.rules.specs.Tests.{if◌then◌else◌}
 use Rattle.rules.specs.Bench.{State, free}
 use Rattle.rules.specs.Owners.{is_ancestor, in_family, drains_under, stand_somewhere}
 use Rattle.rules.specs.ReadWrite.{read_write}

@@ -1,7 +1,6 @@
 -- What playing a list of request records does to a lent image and to the lent words that hold the list.
-use Rattle.std.specs.Prelude.{Bool, true, false, List, ◌≡◌, ℕ, ltb, length}
+use Rattle.std.specs.Prelude.{Bool, true, false, List, ◌≡◌, ℕ, ltb, length, if◌then◌else◌}
 use Rattle.std.proofs.Math.Option.{Option}
-use Rattle.rules.specs.Tests.{if◌then◌else◌}
 use Rattle.rules.specs.Requests.{Request}
 use Rattle.rules.specs.ReadWrite.{read_write}
 use Rattle.rules.specs.Lists.{Call, call, list_answered, after_list}

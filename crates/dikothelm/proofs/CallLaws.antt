@@ -1,10 +1,10 @@
 -- What each call leaves in an image, from what the image and the saved form ensure. Assumes nothing.
+use Rattle.std.specs.Prelude.{if◌then◌else◌}
 use mathlib.Core.Path.{◌≡◌, ◌∙◌, ap}
 use mathlib.Core.Bool.{true, false}
 use mathlib.Core.List.{List}
 use Prim.Native.Nat.{ℕ}
 use lib.ListN.{length}
-use Rattle.rules.specs.Tests.{if◌then◌else◌}
 use Rattle.bench.specs.declared.Bench.{Bench}
 use Rattle.image.specs.Image.{is_image, record_of, StoredAs}
 use Rattle.saving.specs.declared.Saved.{Saved}

@@ -1,7 +1,6 @@
 -- The kinds of frame of the saved form (document 01, "Saved form", and document 02, order 2), each said once: what is written and what is read both
 -- follow from it.
-use Rattle.std.specs.Prelude.{Bool, not, ◌&&◌, ◌||◌, ℕ, ◌+◌, ◌-◌, eqb, ltb}
-use Rattle.rules.specs.Tests.{if◌then◌else◌}
+use Rattle.std.specs.Prelude.{Bool, not, ◌&&◌, ◌||◌, ℕ, ◌+◌, ◌-◌, eqb, ltb, if◌then◌else◌}
 
 -- The shape of a frame: two digits of code, two of number, two values of so many digits, and 0a.
 pub record FrameShape : Type 0 where

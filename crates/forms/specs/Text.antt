@@ -1,7 +1,6 @@
 -- The text of a bench (document 01, "Saved form"): bytes of characters. First `11 nn ss pp` for each number not free, then `12 ii` and both sets for
 -- each instrument with a set that isn't empty, both ascending, 0a after each.
-use Rattle.std.specs.Prelude.{List, [], ◌∷◌, ◌++◌, ℕ, zero, suc, ◌/◌, ◌%◌, ◌^◌, get_or}
-use Rattle.rules.specs.Tests.{if◌then◌else◌}
+use Rattle.std.specs.Prelude.{List, [], ◌∷◌, ◌++◌, ℕ, zero, suc, ◌/◌, ◌%◌, ◌^◌, get_or, if◌then◌else◌}
 use Rattle.bench.specs.declared.Bench.{Bench}
 pub use Rattle.digits.specs.Digits.{hex_digit}
 use Rattle.forms.specs.Kinds.{FrameShape, Kind, action, instrument}

@@ -1,8 +1,8 @@
 -- Which texts are well-shaped, and which record one says (document 01, "Saved form"). Frames are looked for in the order of their numbers, those of
 -- actions first: an 11 frame after a 12 frame, and numbers that don't strictly rise, are then left over, as is everything else of another shape.
-use Rattle.std.specs.Prelude.{Bool, ◌&&◌, List, ℕ, zero, suc, ◌+◌, ◌*◌, ◌%◌, eqb, ltb, length, get_or, set, replicate}
+use Rattle.std.specs.Prelude.{Bool, ◌&&◌, List, ℕ, zero, suc, ◌+◌, ◌*◌, ◌%◌, eqb, ltb, length, get_or, set, replicate, if◌then◌else◌}
 use Rattle.std.proofs.Math.Option.{Option, none, some}
-use Rattle.rules.specs.Tests.{if◌then◌else◌, all}
+use Rattle.rules.specs.Tests.{all}
 use Rattle.bench.specs.declared.Bench.{Bench}
 pub use Rattle.digits.specs.Digits.{digit_of}
 use Rattle.forms.specs.Kinds.{FrameShape, frame_digits, frame_size, Kind, action, instrument}

@@ -1,10 +1,10 @@
 -- The frame of a line's digits: a code that a frame of its length has is kept, and any other is 0, which makes no request. Assumes nothing.
+use Rattle.std.specs.Prelude.{if◌then◌else◌}
 use mathlib.Core.Path.{refl}
 use mathlib.Core.Option.{Option, none}
 use Prim.Native.Nat.{ℕ, ◌/◌, ◌%◌, ◌≤◌}
 use native.Mathlib.Omega.{arith}
 use lib.Dec.{eqb}
-use Rattle.rules.specs.Tests.{if◌then◌else◌}
 use Rattle.rules.specs.Requests.{Request}
 use Rattle.rules.proofs.Tests.{by_bool}
 use Rattle.rules.specs.Frames.{framed}

@@ -1,6 +1,5 @@
 -- Where a line ends in the input: its frame, and how many bytes end it.
-use Rattle.std.specs.Prelude.{◌&&◌, List, ◌≡◌, ℕ, ◌+◌, ◌-◌, ◌*◌, ◌≤◌, eqb, leb, ltb, length, get_or, take, drop}
-use Rattle.rules.specs.Tests.{if◌then◌else◌}
+use Rattle.std.specs.Prelude.{◌&&◌, List, ◌≡◌, ℕ, ◌+◌, ◌-◌, ◌*◌, ◌≤◌, eqb, leb, ltb, length, get_or, take, drop, if◌then◌else◌}
 use Rattle.lines.specs.NextEnds.{EndsAs}
 use Rattle.frames.specs.declared.ends.End.{End}
 use Rattle.frames.specs.Frames.{request_in, no_frame, short_of, long_of, held_frame}

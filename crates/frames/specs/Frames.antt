@@ -1,7 +1,6 @@
 -- The frame of a line: its code, 0 where there is none, and its two numbers.
 use Rattle.std.proofs.Math.Option.{Option}
-use Rattle.std.specs.Prelude.{◌≡◌, ℕ, ◌/◌, ◌%◌, ◌≤◌, eqb}
-use Rattle.rules.specs.Tests.{if◌then◌else◌}
+use Rattle.std.specs.Prelude.{◌≡◌, ℕ, ◌/◌, ◌%◌, ◌≤◌, eqb, if◌then◌else◌}
 use Rattle.rules.specs.Requests.{Request}
 use Rattle.rules.specs.Frames.{framed}
 use Rattle.frames.specs.declared.Frame.{Frame}

@@ -1,4 +1,5 @@
 -- A request on any arrays and index is, by its code, a read or a write, an open, a quiet, or a commit or an abort. Assumes nothing.
+use Rattle.std.specs.Prelude.{if◌then◌else◌}
 use mathlib.Core.Path.{◌≡◌, ◌∙◌, ap}
 use mathlib.Core.Bool.{true, false, ◌||◌}
 use mathlib.Core.List.{[]}
@@ -6,7 +7,6 @@ use Prim.Native.Nat.{ℕ, ◌%◌, ◌≤◌, ◌<◌, ◌^◌}
 use native.Mathlib.Omega.{arith}
 use borrow.Author.Tests.{lt-ltb, le-ltb, ne_eqb}
 use lib.Dec.{eqb}
-use Rattle.rules.specs.Tests.{if◌then◌else◌}
 use Rattle.rules.proofs.Tests.{by_bool}
 use Rattle.rules.proofs.Frames.{ask_code}
 use Rattle.steps.specs.Arrays.{Arrays, lent}

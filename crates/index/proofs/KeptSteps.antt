@@ -1,4 +1,5 @@
 -- On the table of a sound bench a request is the step of the rules, or 8 and no change, and the table after it is again that of a sound bench. Assumes nothing.
+use Rattle.std.specs.Prelude.{if◌then◌else◌}
 use mathlib.Core.Path.{◌≡◌, sym, ◌∙◌, ap}
 use mathlib.Core.Bool.{Bool, true, false, ◌||◌}
 use mathlib.Core.List.{List}
@@ -15,7 +16,6 @@ use Rattle.rules.specs.Owners.{granted}
 use Rattle.rules.specs.ReadWrite.{read_write, mode_of}
 use Rattle.rules.specs.Requests.{Request, open_top, open_sub, ask}
 use Rattle.rules.specs.Answers.{Outcome, step}
-use Rattle.rules.specs.Tests.{if◌then◌else◌}
 use Rattle.rules.proofs.Accepted.{Accepted, OpensTop, OpensSub, Asks}
 use Rattle.rules.proofs.Tests.{by_bool}
 use Rattle.rules.proofs.Frames.{framed_ask, ask_code, end_code}

@@ -1,4 +1,5 @@
 -- Numbers that leave the sets of some places: place by place, and where they stand at no others they leave all sets. Assumes nothing.
+use Rattle.std.specs.Prelude.{if◌then◌else◌}
 use mathlib.Core.Path.{◌≡◌, refl, sym, ◌∙◌, ap}
 use mathlib.Core.Bool.{true, false, and-true, and-false}
 use mathlib.Core.List.{List}
@@ -11,7 +12,7 @@ use lib.Seq.{ext_get_or, get_or-set_same, get_or-set_other}
 use Rattle.sets.specs.Sets.{member, difference}
 use Rattle.sets.proofs.Laws.{member_empty, member_difference, same_members, difference_fits, below_pow}
 use Rattle.sets.proofs.WordPlaces.{length_first, word_first}
-use Rattle.rules.specs.Tests.{if◌then◌else◌, all}
+use Rattle.rules.specs.Tests.{all}
 use Rattle.rules.proofs.Tests.{by_bool, all_at}
 use Rattle.tables.specs.OneWord.{left_at}
 use Rattle.tables.proofs.Taken.{Taken}

@@ -1,4 +1,5 @@
 -- Places and groups are kept when a family is freed or aborted, and when a group goes quiet. Assumes nothing.
+use Rattle.std.specs.Prelude.{if◌then◌else◌}
 use mathlib.Core.Path.{◌≡◌, sym, ◌∙◌, ap}
 use mathlib.Core.Bool.{true, false, not, ◌&&◌}
 use mathlib.Core.List.{List}
@@ -11,7 +12,6 @@ use lib.ListN.{length, get_or, length-set}
 use lib.Seq.{get_or-set_same, get_or-set_other}
 use Rattle.sets.specs.Sets.{member, difference}
 use Rattle.sets.proofs.Laws.{member_empty, member_difference, member_inside}
-use Rattle.rules.specs.Tests.{if◌then◌else◌}
 use Rattle.rules.proofs.Tests.{by_bool, clash, and_left, and_right}
 use Rattle.tables.specs.OneWord.{left_at}
 use Rattle.steps.specs.Arrays.{place_of}

@@ -1,4 +1,5 @@
 -- Places and groups are kept: what each request stores covers again where numbers stand, and has again the groups that it knows. Assumes nothing.
+use Rattle.std.specs.Prelude.{if◌then◌else◌}
 use mathlib.Core.Path.{◌≡◌, refl, sym, ◌∙◌, ap}
 use mathlib.Core.Bool.{Bool, true, ◌||◌}
 use mathlib.Core.List.{List}
@@ -10,7 +11,6 @@ use lib.ListN.{length, get_or, set, length-set}
 use lib.Seq.{get_or-set_same, get_or-set_other}
 use Rattle.sets.specs.Sets.{member, with}
 use Rattle.sets.proofs.Laws.{member_with}
-use Rattle.rules.specs.Tests.{if◌then◌else◌}
 use Rattle.rules.proofs.Tests.{by_bool, by_or, clash, or_left, or_right}
 use Rattle.steps.specs.Changes.{joined_at, group_in}
 use Rattle.steps.proofs.Gathered.{set_fits}

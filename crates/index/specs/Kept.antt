@@ -1,8 +1,7 @@
 -- Requests on any arrays with any index: what an answer has to know is read from the index, and where the request is accepted the index is changed with the arrays.
 -- On the arrays of a sound bench with their index they are the steps of the rules.
-use Rattle.std.specs.Prelude.{Bool, not, ◌&&◌, ◌||◌, List, ◌≡◌, ℕ, ◌+◌, ◌-◌, ◌%◌, ◌<◌, ◌^◌, eqb, leb, ltb, get_or, set}
+use Rattle.std.specs.Prelude.{Bool, not, ◌&&◌, ◌||◌, List, ◌≡◌, ℕ, ◌+◌, ◌-◌, ◌%◌, ◌<◌, ◌^◌, eqb, leb, ltb, get_or, set, if◌then◌else◌}
 use Rattle.sets.specs.Sets.{with, difference, meet}
-use Rattle.rules.specs.Tests.{if◌then◌else◌}
 use Rattle.steps.specs.Arrays.{Arrays, lent, stand_at}
 use Rattle.rows.specs.Rows.{quiet_row, open_answer, end_answer}
 use Rattle.steps.specs.Changes as changes

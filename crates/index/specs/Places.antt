@@ -1,9 +1,9 @@
 -- Where numbers may stand. The owners' words are sorted into 64 places: place j has the read sets and the write sets of the instruments j and 64 + j, which are the words
 -- j, 64 + j, 128 + j and 192 + j. Sets of places are words like sets of numbers.
-use Rattle.std.specs.Prelude.{Bool, true, ◌&&◌, List, ◌≡◌, ℕ, suc, ◌+◌, ◌-◌, ◌%◌, ◌<◌, eqb, leb, ltb, length, get_or}
+use Rattle.std.specs.Prelude.{Bool, true, ◌&&◌, List, ◌≡◌, ℕ, suc, ◌+◌, ◌-◌, ◌%◌, ◌<◌, eqb, leb, ltb, length, get_or, if◌then◌else◌}
 use Rattle.sets.specs.Sets.{member, union, difference, meet}
 use Rattle.sets.specs.Words.{first_words}
-use Rattle.rules.specs.Tests.{if◌then◌else◌, any}
+use Rattle.rules.specs.Tests.{any}
 use Rattle.steps.specs.Changes.{sets_left, set_of, group_in}
 
 -- ---- what the index says

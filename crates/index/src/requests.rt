@@ -1,7 +1,6 @@
 // Requests in place on a bench's arrays, with the index that is kept beside them. Nothing is tested: on the arrays of a sound bench with their index they are the
 // steps of the rules.
-ghost use Rattle.std.specs.Prelude.{[], ◌≡◌, ◌%◌, eqb};
-ghost use Rattle.rules.specs.Tests.{if◌then◌else◌};
+ghost use Rattle.std.specs.Prelude.{[], ◌≡◌, ◌%◌, eqb, if◌then◌else◌};
 ghost use Rattle.steps.specs.Arrays.{lent};
 ghost use Rattle.steps.specs.Steps.{Opened, Asked};
 ghost use Rattle.index.specs.Tables.{table, running_set};

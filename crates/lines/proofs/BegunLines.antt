@@ -1,5 +1,6 @@
 -- What a feeding knows of the line that has begun, kept by one more character: how many digits and the number that they write, from which the line's
 -- request can be told. Assumes nothing.
+use Rattle.std.specs.Prelude.{if◌then◌else◌}
 use mathlib.Core.Path.{◌≡◌, refl, sym, ◌∙◌, ap, ap₂}
 use mathlib.Core.Bool.{Bool, true, false, ◌&&◌, and-true, and_assoc}
 use mathlib.Core.List.{List, [], ◌∷◌, ◌++◌}
@@ -11,7 +12,6 @@ use lib.Dec.{eqb, leb, ltb}
 use lib.ListN.{length, length-append}
 use borrow.Author.Tests.{ltb-true, leb-true, leb-false, le-leb, lt-ltb}
 use Rattle.digits.specs.Digits.{digit_of}
-use Rattle.rules.specs.Tests.{if◌then◌else◌}
 use Rattle.rules.specs.Bench as rules
 use Rattle.rules.proofs.Tests.{by_bool, and_left, and_right, and_both, same}
 use Rattle.rules.specs.Answers.{answered}

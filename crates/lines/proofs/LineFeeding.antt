@@ -1,5 +1,6 @@
 -- Feeding a trace byte by byte, in chunks cut anywhere, gives what the definition of trace lines gives: the same answers and the same bench in the end.
 -- Assumes nothing.
+use Rattle.std.specs.Prelude.{if◌then◌else◌}
 use mathlib.Core.Path.{◌≡◌, refl, sym, ◌∙◌, ap, ap₂, subst}
 use mathlib.Core.Bool.{Bool, true, false, not, ◌&&◌}
 use mathlib.Core.List.{List, [], ◌∷◌, ◌++◌, append_assoc, append-nil, flatten}
@@ -8,7 +9,6 @@ use Prim.Native.Nat.{ℕ}
 use native.Mathlib.Omega.{arith}
 use lib.Dec.{eqb}
 use borrow.Author.Tests.{eqb-true, ne_eqb, not-true}
-use Rattle.rules.specs.Tests.{if◌then◌else◌}
 use Rattle.rules.specs.Bench as rules
 use Rattle.rules.specs.Requests.{Request}
 use Rattle.rules.proofs.Tests.{by_bool, and_left, and_right, and_both}

@@ -1,4 +1,5 @@
 -- Lines that end within the input: digits and 0a, fed from a line's start, are answered as the frame of the digits is. Assumes nothing.
+use Rattle.std.specs.Prelude.{if◌then◌else◌}
 use mathlib.Core.Path.{◌≡◌, refl, ◌∙◌, ap, ap₂, subst}
 use mathlib.Core.Bool.{true, false, ◌&&◌}
 use mathlib.Core.List.{List, [], ◌∷◌, ◌++◌, append_assoc, append-nil}
@@ -11,7 +12,6 @@ use lib.Dec.{eqb, ltb}
 use lib.ListN.{length, get_or, take, drop}
 use lib.Seq.{drop-cons}
 use Rattle.digits.specs.Digits.{digit_of}
-use Rattle.rules.specs.Tests.{if◌then◌else◌}
 use Rattle.rules.specs.Bench as rules
 use Rattle.rules.specs.Requests.{Request}
 use Rattle.rules.proofs.Tests.{by_bool, and_left, and_right}

@@ -1,8 +1,7 @@
 -- Trace lines (document 01, "Trace lines"): from any bytes to lines, from a line to a request, from a trace to its answers and the final bench.
-use Rattle.std.specs.Prelude.{Bool, true, ◌&&◌, List, [], ◌∷◌, ◌++◌, ℕ, ◌+◌, ◌*◌, eqb, ltb}
+use Rattle.std.specs.Prelude.{Bool, true, ◌&&◌, List, [], ◌∷◌, ◌++◌, ℕ, ◌+◌, ◌*◌, eqb, ltb, if◌then◌else◌}
 use Rattle.std.proofs.Math.Option.{Option, none, some}
 use Rattle.digits.specs.Digits.{hex_digit, digit_of}
-use Rattle.rules.specs.Tests.{if◌then◌else◌}
 use Rattle.rules.specs.Bench as rules
 use Rattle.rules.specs.Requests.{Request, open_top, open_sub, commit, abort, quiet}
 use Rattle.rules.specs.Answers.{answered}

@@ -1,8 +1,7 @@
 -- Bytes that end a line: the request that comes of it, and what feeding up to its end gives.
-use Rattle.std.specs.Prelude.{◌&&◌, List, ◌≡◌, ℕ, ◌-◌, ◌≤◌, ◌<◌, ltb, length, take, drop}
+use Rattle.std.specs.Prelude.{◌&&◌, List, ◌≡◌, ℕ, ◌-◌, ◌≤◌, ◌<◌, ltb, length, take, drop, if◌then◌else◌}
 use Rattle.std.proofs.Math.Option.{Option}
 use Rattle.digits.specs.Digits.{digit_of}
-use Rattle.rules.specs.Tests.{if◌then◌else◌}
 use Rattle.rules.specs.Bench as rules
 use Rattle.rules.specs.Requests.{Request}
 use Rattle.rules.specs.Answers.{answered}

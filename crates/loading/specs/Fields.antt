@@ -1,6 +1,5 @@
 -- What a function that reads a frame hands back.
-use Rattle.std.specs.Prelude.{true, false, List, ℕ}
-use Rattle.rules.specs.Tests.{if◌then◌else◌}
+use Rattle.std.specs.Prelude.{true, false, List, ℕ, if◌then◌else◌}
 use Rattle.loading.specs.declared.fields.Fields.{Fields}
 use Rattle.forms.specs.Kinds.{FrameShape}
 use Rattle.forms.specs.WellShaped.{head_at, first_at, second_at}

@@ -1,7 +1,7 @@
 -- Whom an answer names, over the arrays and the frame alone, and what its parts compute.
-use Rattle.std.specs.Prelude.{Bool, true, not, ◌&&◌, ◌||◌, List, ℕ, ◌+◌, ◌%◌, eqb, leb, ltb, get_or}
+use Rattle.std.specs.Prelude.{Bool, true, not, ◌&&◌, ◌||◌, List, ℕ, ◌+◌, ◌%◌, eqb, leb, ltb, get_or, if◌then◌else◌}
 use Rattle.std.proofs.Math.Option.{Option}
-use Rattle.rules.specs.Tests.{if◌then◌else◌, from}
+use Rattle.rules.specs.Tests.{from}
 use Rattle.rules.specs.Reasons.{smallest}
 use Rattle.views.specs.Tree.{met_from}
 use Rattle.views.specs.Reach.{owns_set}

@@ -1,4 +1,5 @@
 -- What ending the input hands back, from what feeding one 0a hands back, and that it gives a trace's last line. Assumes nothing.
+use Rattle.std.specs.Prelude.{if◌then◌else◌}
 use mathlib.Core.Path.{◌≡◌, refl, sym, ◌∙◌, ap}
 use mathlib.Core.List.{List, [], ◌∷◌, ◌++◌, append-nil}
 use mathlib.Core.Option.{Option}
@@ -12,7 +13,6 @@ use lib.Seq.{take_at}
 use Rattle.rules.specs.Bench as rules
 use Rattle.rules.specs.Bench.{empty}
 use Rattle.rules.specs.Requests.{Request}
-use Rattle.rules.specs.Tests.{if◌then◌else◌}
 use Rattle.rules.proofs.Tests.{by_bool}
 use Rattle.lines.specs.Lines.{answer_line, output_by, output_of}
 use Rattle.lines.specs.Feeding.{between, fed, said_by, said_byte_by, said_at_end_by, taken_by}

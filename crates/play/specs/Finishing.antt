@@ -1,8 +1,7 @@
 -- The end of a player's input: a last line that lacks its 0a is answered if it has at least one character. Where the lent buffer may lack room for what is
 -- written for it nothing is done, and the line stays begun.
-use Rattle.std.specs.Prelude.{Bool, not, ◌&&◌, List, [], ◌++◌, ◌≡◌, ℕ, eqb, leb, length, drop}
+use Rattle.std.specs.Prelude.{Bool, not, ◌&&◌, List, [], ◌++◌, ◌≡◌, ℕ, eqb, leb, length, drop, if◌then◌else◌}
 use Rattle.std.proofs.Math.Option.{Option}
-use Rattle.rules.specs.Tests.{if◌then◌else◌}
 use Rattle.rules.specs.Bench as rules
 use Rattle.rules.specs.Requests.{Request}
 use Rattle.lines.specs.Lines.{answer_line}

@@ -1,6 +1,5 @@
 -- What is put for a line that has ended, from the arrays that it left.
-use Rattle.std.specs.Prelude.{Bool, true, false, List, ℕ, get_or}
-use Rattle.rules.specs.Tests.{if◌then◌else◌}
+use Rattle.std.specs.Prelude.{Bool, true, false, List, ℕ, get_or, if◌then◌else◌}
 use Rattle.lines.specs.Lines.{answer_text}
 use Rattle.naming.specs.declared.Reason.{Reason}
 use Rattle.naming.specs.Blocking.{named_in}

@@ -1,4 +1,5 @@
 -- Rows and owners of any bytes, as the code finds them. Assumes nothing.
+use Rattle.std.specs.Prelude.{if◌then◌else◌}
 use mathlib.Core.Path.{◌≡◌, sym, ◌∙◌, ap}
 use mathlib.Core.Bool.{Bool, true, not}
 use mathlib.Core.List.{List}
@@ -9,7 +10,7 @@ use lib.Dec.{eqb}
 use lib.ListN.{get_or}
 use Rattle.sets.specs.Sets.{member, within}
 use Rattle.sets.proofs.Laws.{within_at, member_empty}
-use Rattle.rules.specs.Tests.{if◌then◌else◌, ◌⇒◌}
+use Rattle.rules.specs.Tests.{◌⇒◌}
 use Rattle.rules.proofs.Tests.{by_bool, clash, implied, all_by}
 use Rattle.views.specs.Reach.{waits_for, held_by, all_held}
 use Rattle.tables.proofs.Reaching.{reaches_here}

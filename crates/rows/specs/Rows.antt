@@ -1,7 +1,7 @@
 -- The rows of document 01's table, of any bytes: the first that applies is the answer. What is said of running children and of owners is a parameter.
-use Rattle.std.specs.Prelude.{Bool, not, ◌&&◌, ◌||◌, List, ℕ, ◌+◌, ◌%◌, eqb, leb, get_or}
+use Rattle.std.specs.Prelude.{Bool, not, ◌&&◌, ◌||◌, List, ℕ, ◌+◌, ◌%◌, eqb, leb, get_or, if◌then◌else◌}
 use Rattle.sets.specs.Sets.{member}
-use Rattle.rules.specs.Tests.{if◌then◌else◌, any}
+use Rattle.rules.specs.Tests.{any}
 use Rattle.rules.specs.Requests.{open_top, open_sub, abort}
 use Rattle.rules.specs.Answers.{row}
 use Rattle.tables.specs.Tree.{bare, tree_shape}

@@ -1,5 +1,6 @@
 -- Where nobody drains, all is as it was before document 02's order 2: which benches are sound, who is granted what, and what requests with codes 1 to 5 are
 -- answered and leave. Assumes nothing.
+use Rattle.std.specs.Prelude.{if◌then◌else◌}
 use mathlib.Core.Path.{◌≡◌, refl, sym, ◌∙◌, ap, fun_ext}
 use mathlib.Core.Bool.{Bool, true, false, not, ◌&&◌, and-true}
 use mathlib.Core.List.{List, [], ◌∷◌}
@@ -7,7 +8,7 @@ use mathlib.Core.Option.{Option, none, some, none-ne-some}
 use Prim.Native.Nat.{ℕ, ◌<◌, ◌-◌}
 use lib.Dec.{eqb, ltb}
 use borrow.Author.Tests.{ltb-true}
-use Rattle.rules.specs.Tests.{if◌then◌else◌, ◌⇒◌, all, from}
+use Rattle.rules.specs.Tests.{◌⇒◌, all, from}
 use Rattle.rules.specs.Bench.{Shape, State, free, running, committed, draining, meaningless, is_free, is_running, head_of, in_tree, Bench}
 use Rattle.rules.specs.Owners.{in_family, nearest, heir, is_asker_or_ancestor, heir_in_line, granted}
 use Rattle.rules.specs.Sound.{means_something, has_no_parent, reaches_top, rule2, rule4, sound_at, sound}

@@ -1,11 +1,11 @@
 -- Commit of a sub in document 01's words: no set changes, and the owners of every set are those from before, with the sub replaced by its parent.
+use Rattle.std.specs.Prelude.{if◌then◌else◌}
 use mathlib.Core.Path.{◌≡◌, sym, ◌∙◌, ap}
 use mathlib.Core.Bool.{true}
 use mathlib.Core.Logic.{◌↔◌}
 use mathlib.Core.Option.{some, some-injective}
 use Prim.Native.Nat.{ℕ, ◌<◌}
 use lib.Dec.{eqb}
-use Rattle.rules.specs.Tests.{if◌then◌else◌}
 use Rattle.rules.specs.Bench.{Shape, Bench}
 use Rattle.rules.specs.Owners.{heir}
 use Rattle.rules.specs.Sound.{sound}

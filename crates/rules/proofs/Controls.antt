@@ -1,12 +1,13 @@
 -- Controls: computed benches that tell a rule from a wrong one that lies near it, and on which soundness holds and fails. All of them have four
 -- actions and two instruments, and the modes of read and write.
+use Rattle.std.specs.Prelude.{if◌then◌else◌}
 use mathlib.Core.Path.{◌≡◌, refl}
 use mathlib.Core.Bool.{Bool, true, false, ◌||◌}
 use mathlib.Core.List.{List, [], ◌∷◌, map}
 use mathlib.Core.Option.{Option, none, some}
 use Prim.Native.Nat.{ℕ, zero, suc}
 use lib.Dec.{eqb}
-use Rattle.rules.specs.Tests.{if◌then◌else◌, ◌⇒◌, all, any, from}
+use Rattle.rules.specs.Tests.{◌⇒◌, all, any, from}
 use Rattle.rules.specs.Bench.{Shape, State, free, running, committed, draining, meaningless, is_free, head_of, Bench, empty}
 use Rattle.rules.specs.Owners.{is_child, above, is_ancestor, in_family, nearest, heir, is_asker_or_ancestor, heir_in_line, granted, has_running_child, drains_under, stand_at, stand_somewhere}
 use Rattle.rules.specs.Requests.{Request, open_top, open_sub, commit, abort, quiet, put, without, quieted, effect}

@@ -1,5 +1,6 @@
 -- Controls of demand 2: the plain machine on document 01's sessions, both machines computed on a small table, and near variants of them that a list of
 -- requests tells apart from the step.
+use Rattle.std.specs.Prelude.{if◌then◌else◌}
 use mathlib.Core.Path.{◌≡◌, refl, sym, ◌∙◌, ap, fun_ext}
 use mathlib.Core.Bool.{Bool, true, false, ◌&&◌, false≢true}
 use mathlib.Core.List.{List, [], ◌∷◌, ◌++◌, map}
@@ -8,7 +9,7 @@ use Prim.Native.Nat.{ℕ, ◌<◌}
 use native.Mathlib.Omega.{arith}
 use lib.Dec.{eqb}
 use borrow.Author.Tests.{eq-eqb}
-use Rattle.rules.specs.Tests.{if◌then◌else◌, all, any}
+use Rattle.rules.specs.Tests.{all, any}
 use Rattle.rules.specs.Bench.{Bench, empty}
 use Rattle.rules.specs.Owners.{above, is_ancestor, in_family, nearest, heir, is_owner, is_asker_or_ancestor, heir_in_line, granted, has_running_child, stand_at, stand_somewhere}
 use Rattle.rules.specs.Requests.{Request, open_top, open_sub, ask, commit, abort, quiet, without, effect}

@@ -1,12 +1,13 @@
 -- How heirs change with each accepted request on a sound bench: opening and asking change none of a number in use, a family that leaves takes its
 -- own heirs with it and no others, and committing a sub hands what it was the heir of to its parent.
+use Rattle.std.specs.Prelude.{if◌then◌else◌}
 use mathlib.Core.Path.{◌≡◌, refl, sym, ◌∙◌, ap}
 use mathlib.Core.Bool.{Bool, true, false}
 use mathlib.Core.Option.{Option, none, some, none-ne-some, some-injective}
 use Prim.Native.Nat.{ℕ, zero, suc, ◌<◌}
 use lib.Dec.{eqb}
 use borrow.Author.Tests.{eqb-true, eq-eqb, ne_eqb}
-use Rattle.rules.specs.Tests.{if◌then◌else◌, from}
+use Rattle.rules.specs.Tests.{from}
 use Rattle.rules.specs.Bench.{Shape, committed, Bench, is_free, is_running, head_of, in_tree}
 use Rattle.rules.specs.Owners.{is_ancestor, in_family, nearest, heir, granted}
 use Rattle.rules.specs.Sound.{sound}

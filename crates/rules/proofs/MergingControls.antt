@@ -1,12 +1,13 @@
 -- Controls of demand 3: a merging that meets the hypotheses, computed, in which answers of all kinds but 7 come up; and the claims of demand 3
 -- refuted where a hypothesis is weaker, and where numbers that drain stay in the tree.
+use Rattle.std.specs.Prelude.{if◌then◌else◌}
 use mathlib.Core.Path.{◌≡◌, refl, sym, ◌∙◌, ap}
 use mathlib.Core.Bool.{Bool, true, false, not, ◌&&◌, ◌||◌, false≢true}
 use mathlib.Core.List.{List, [], ◌∷◌}
 use Prim.Native.Nat.{ℕ}
 use lib.Dec.{eqb}
 use borrow.Author.Tests.{eqb-false}
-use Rattle.rules.specs.Tests.{if◌then◌else◌, all, any, from}
+use Rattle.rules.specs.Tests.{all, any, from}
 use Rattle.rules.specs.Bench.{Shape, head_of, Bench, empty}
 use Rattle.rules.specs.Owners.{above, is_ancestor, in_family, nearest, heir, is_asker_or_ancestor, heir_in_line, granted, has_running_child, stand_at, stand_somewhere}
 use Rattle.rules.specs.Requests.{Request, open_top, open_sub, ask, commit, abort, quiet, effect}

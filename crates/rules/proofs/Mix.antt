@@ -1,12 +1,12 @@
 -- Two benches put together by member: the numbers of the one side from the one bench, all others from the other. What each side keeps to, and
 -- when the two sides are apart.
+use Rattle.std.specs.Prelude.{cond}
 use mathlib.Core.Path.{◌≡◌, sym, ◌∙◌}
 use mathlib.Core.Bool.{Bool, true, false, not, ◌&&◌, not-not}
 use mathlib.Core.Option.{none, some}
 use Prim.Native.Nat.{ℕ}
 use lib.Dec.{eqb}
 use borrow.Author.Tests.{not-true, ne_eqb}
-use Rattle.rules.specs.Tests.{if◌then◌else◌}
 use Rattle.rules.specs.Bench.{Shape, free, head_of, Bench}
 use Rattle.rules.specs.Requests.{Request, open_top, open_sub, ask, commit, abort, quiet}
 use Rattle.rules.specs.Sound.{sound}
@@ -15,7 +15,7 @@ use Rattle.rules.proofs.Tests.{by_bool, clash}
 
 -- what f gives at the numbers, and g at all others
 abbrev pub choose {ℓ} : {A : Type ℓ} → (ℕ → Bool) → (ℕ → A) → (ℕ → A) → ℕ → A
-choose numbers f g k = if numbers k then f k else g k
+choose numbers f g k = cond (numbers k) (f k) (g k)
 
 abbrev pub mix : (ℕ → Bool) → Bench → Bench → Bench
 mix numbers c d =

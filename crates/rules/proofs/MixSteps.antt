@@ -1,11 +1,12 @@
 -- A request that keeps to one side steps on the mix of two benches as on its own bench, and leaves the other bench as it was.
+use Rattle.std.specs.Prelude.{if◌then◌else◌}
 use mathlib.Core.Path.{◌≡◌, refl, sym, ◌∙◌, ap}
 use mathlib.Core.Bool.{Bool, true, false, not, ◌&&◌, ◌||◌, and-false, and-true, or-false}
 use mathlib.Core.Option.{none, some}
 use Prim.Native.Nat.{ℕ}
 use lib.Dec.{eqb}
 use borrow.Author.Tests.{eq-eqb}
-use Rattle.rules.specs.Tests.{if◌then◌else◌, any}
+use Rattle.rules.specs.Tests.{any}
 use Rattle.rules.specs.Bench.{Shape, State, free, running, committed, draining, Bench}
 use Rattle.rules.specs.Owners.{in_family, drains_under, stand_at, stand_somewhere}
 use Rattle.rules.specs.Requests.{Request, open_top, open_sub, ask, commit, abort, quiet, put, without, drained, quieted, effect}

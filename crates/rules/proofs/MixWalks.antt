@@ -1,11 +1,12 @@
 -- What a number of one side meets on the mix of two benches: its ancestors, heirs and children, its family and the group that drains under it, and
 -- what it is granted, are those of its own bench.
+use Rattle.std.specs.Prelude.{if◌then◌else◌}
 use mathlib.Core.Path.{◌≡◌, refl, sym, ◌∙◌, ap}
 use mathlib.Core.Bool.{true, false, ◌&&◌, ◌||◌, and-false}
 use mathlib.Core.Option.{none, some}
 use Prim.Native.Nat.{ℕ, zero, suc}
 use lib.Dec.{eqb}
-use Rattle.rules.specs.Tests.{if◌then◌else◌, ◌⇒◌, all}
+use Rattle.rules.specs.Tests.{◌⇒◌, all}
 use Rattle.rules.specs.Bench.{Shape, is_running, head_of, Bench}
 use Rattle.rules.specs.Owners.{is_child, above, is_ancestor, in_family, nearest, heir, is_asker_or_ancestor, heir_in_line, granted, has_running_child, drains_under}
 use Rattle.rules.proofs.Tests.{by_bool, by_parent, clash, refuted, from_cong, all_cong, any_cong}

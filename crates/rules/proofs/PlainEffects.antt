@@ -1,4 +1,5 @@
 -- A sound bench and a plain machine that say the same still do after every request that is accepted.
+use Rattle.std.specs.Prelude.{if◌then◌else◌}
 use mathlib.Core.Path.{◌≡◌, refl, sym, ◌∙◌, ap}
 use mathlib.Core.Bool.{Bool, true, false, not, ◌&&◌, and-true, and-false}
 use mathlib.Core.List.{List, [], ◌∷◌}
@@ -6,7 +7,7 @@ use mathlib.Core.Option.{Option, some, some-injective}
 use Prim.Native.Nat.{ℕ, ◌<◌}
 use lib.Dec.{eqb}
 use borrow.Author.Tests.{eqb-true, eqb-false, eq-eqb, ne_eqb}
-use Rattle.rules.specs.Tests.{if◌then◌else◌, any, from}
+use Rattle.rules.specs.Tests.{any, from}
 use Rattle.rules.specs.Bench.{Shape, State, free, running, Bench, is_free, is_running}
 use Rattle.rules.specs.Owners.{in_family, heir, is_owner, granted, drains_under, stand_at, stand_somewhere}
 use Rattle.rules.specs.Sound.{sound}

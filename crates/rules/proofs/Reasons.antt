@@ -1,5 +1,6 @@
 -- Who stands in the way (document 02, orders 1 and 2), for any number of actions, instruments and modes and any table of conflicts: whom each answer names,
 -- that all answers but 0 and 7 name somebody, and what is said of an owner that blocks. Assumes nothing.
+use Rattle.std.specs.Prelude.{if◌then◌else◌}
 use mathlib.Core.Path.{◌≡◌, refl, sym, ◌∙◌, ap, subst}
 use mathlib.Core.Bool.{Bool, true, false, not, ◌&&◌, ◌||◌}
 use mathlib.Core.Option.{Option, none, some, none-ne-some}
@@ -7,7 +8,7 @@ use Prim.Native.Nat.{ℕ, zero, suc, ◌≤◌, ◌<◌}
 use native.Mathlib.Omega.{arith}
 use lib.Dec.{eqb}
 use borrow.Author.Tests.{eq-eqb, le-leb, lt-leb, ne_eqb, leb-false, not-true}
-use Rattle.rules.specs.Tests.{if◌then◌else◌, ◌⇒◌, all, any, from}
+use Rattle.rules.specs.Tests.{◌⇒◌, all, any, from}
 use Rattle.rules.specs.Bench.{Shape, State, free, running, committed, draining, meaningless, Bench, is_free, is_running, head_of}
 use Rattle.rules.specs.Owners.{is_child, is_ancestor, nearest, heir, is_owner, is_asker_or_ancestor, granted, has_running_child, drains_under, stand_at}
 use Rattle.rules.specs.Sound.{sound}

@@ -1,12 +1,13 @@
 -- Document 01's sessions marked (P), and those of document 02's order 2: the step gives each request the answer that the documents give. They are computed
 -- with a step that leaves the test of soundness out, which from the empty bench answers the same, since every request keeps a bench sound, and that looks
 -- for who stands in a set number by number.
+use Rattle.std.specs.Prelude.{if◌then◌else◌}
 use mathlib.Core.Path.{◌≡◌, refl, ◌∙◌, ap, fun_ext}
 use mathlib.Core.Bool.{Bool, true, ◌&&◌}
 use mathlib.Core.List.{List, [], ◌∷◌, map}
 use Prim.Native.Nat.{ℕ}
 use lib.ListN.{get_or}
-use Rattle.rules.specs.Tests.{if◌then◌else◌, all, any}
+use Rattle.rules.specs.Tests.{all, any}
 use Rattle.rules.specs.Bench.{Shape, Bench, empty}
 use Rattle.rules.specs.Owners.{above, is_ancestor, in_family, nearest, heir, is_asker_or_ancestor, heir_in_line, granted, has_running_child, drains_under, stand_at, stand_somewhere}
 use Rattle.rules.specs.Requests.{Request, open_top, open_sub, ask, commit, abort, quiet, without, drained, quieted, effect}

@@ -1,4 +1,5 @@
 -- Going up from parent to parent in a sound bench: laws of ancestors and heirs that mention no number of steps, and induction along parents.
+use Rattle.std.specs.Prelude.{if◌then◌else◌}
 use mathlib.Core.Path.{◌≡◌, refl, sym, ◌∙◌, ap}
 use mathlib.Core.Bool.{true, false, ◌||◌}
 use mathlib.Core.Option.{Option, none, some, none-ne-some, some-injective}
@@ -6,7 +7,7 @@ use Prim.Native.Nat.{ℕ, zero, suc, ◌<◌, ◌-◌}
 use native.Mathlib.Omega.{arith}
 use lib.Dec.{eqb}
 use borrow.Author.Tests.{eqb-true, eq-eqb}
-use Rattle.rules.specs.Tests.{if◌then◌else◌, from}
+use Rattle.rules.specs.Tests.{from}
 use Rattle.rules.specs.Bench.{Shape, Bench, is_free, is_running, head_of, in_tree}
 use Rattle.rules.specs.Owners.{above, is_ancestor, nearest, heir, is_asker_or_ancestor}
 use Rattle.rules.specs.Sound.{reaches_top, sound}

@@ -7,9 +7,8 @@
 --                                         10  quiet: a isn't draining under itself, or its group isn't in i's sets
 --
 -- Where several apply: 7 first, then 1, 2, 3, 4, 5, 6; for quiet 7 first, then 1, 2, 10.
-use Rattle.std.specs.Prelude.{Bool, true, false, not, ◌||◌, List, [], ◌∷◌, ℕ, eqb, leb}
+use Rattle.std.specs.Prelude.{Bool, true, false, not, ◌||◌, List, [], ◌∷◌, ℕ, eqb, leb, if◌then◌else◌}
 use Rattle.std.proofs.Math.Option.{Option, none, some}
-use Rattle.rules.specs.Tests.{if◌then◌else◌}
 use Rattle.rules.specs.Bench.{Shape, State, is_free, is_running, Bench}
 use Rattle.rules.specs.Owners.{granted, has_running_child, drains_under, stand_at}
 use Rattle.rules.specs.Sound.{sound}

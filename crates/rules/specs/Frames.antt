@@ -1,7 +1,6 @@
 -- A request as a code and two numbers, as trace lines and callers have it.
 use Rattle.std.proofs.Math.Option.{Option, none, some}
-use Rattle.std.specs.Prelude.{ℕ, eqb}
-use Rattle.rules.specs.Tests.{if◌then◌else◌}
+use Rattle.std.specs.Prelude.{ℕ, eqb, if◌then◌else◌}
 use Rattle.rules.specs.Requests.{Request, open_top, open_sub, commit, abort, quiet}
 use Rattle.rules.specs.ReadWrite.{read, write}
 

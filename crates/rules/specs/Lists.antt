@@ -3,9 +3,8 @@
 --
 --   0  of the call: the list was played     11  of the call: the list is longer than 32; list and bench stay
 --   8  at a place: the kind is outside 1 to 7, before 7
-use Rattle.std.specs.Prelude.{List, [], ◌∷◌, ℕ, ltb, length}
+use Rattle.std.specs.Prelude.{List, [], ◌∷◌, ℕ, ltb, length, if◌then◌else◌}
 use Rattle.std.proofs.Math.Option.{Option}
-use Rattle.rules.specs.Tests.{if◌then◌else◌}
 use Rattle.rules.specs.Bench.{Shape, Bench}
 use Rattle.rules.specs.Requests.{Request}
 use Rattle.rules.specs.Answers.{answered}

@@ -1,8 +1,7 @@
 -- Moss's rules in document 01's own words: who owns a set of numbers, and whom all its owners leave a place beside them. What conflicts with what is
 -- not looked up in a table here: the sets are named.
-use Rattle.std.specs.Prelude.{Bool, true, ◌≡◌, ℕ, ◌<◌, eqb}
+use Rattle.std.specs.Prelude.{Bool, true, ◌≡◌, ℕ, ◌<◌, eqb, if◌then◌else◌}
 use Rattle.std.proofs.Math.Option.{some}
-use Rattle.rules.specs.Tests.{if◌then◌else◌}
 use Rattle.rules.specs.Bench.{Shape, Bench}
 use Rattle.rules.specs.Owners.{heir, is_asker_or_ancestor}
 

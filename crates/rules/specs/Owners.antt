@@ -1,8 +1,8 @@
 -- Actions and owners: top actions, children, ancestors, heirs and owners (document 01, "Actions and owners"; Moss's rules are those of the Eos
 -- report, section 3.1), and the groups that drain (document 02, order 2).
-use Rattle.std.specs.Prelude.{Bool, true, false, not, ◌&&◌, ◌||◌, ℕ, zero, suc, eqb}
+use Rattle.std.specs.Prelude.{Bool, true, false, not, ◌&&◌, ◌||◌, ℕ, zero, suc, eqb, if◌then◌else◌}
 use Rattle.std.proofs.Math.Option.{Option, none, some}
-use Rattle.rules.specs.Tests.{if◌then◌else◌, ◌⇒◌, all, any, from}
+use Rattle.rules.specs.Tests.{◌⇒◌, all, any, from}
 use Rattle.rules.specs.Bench.{Shape, State, is_running, head_of, in_tree, Bench}
 
 -- A number of the tree is either a top action or has a parent number.

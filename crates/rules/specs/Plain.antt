@@ -3,9 +3,9 @@
 -- it shares the words of the requests, the table's measures, the tests that compute, and which modes conflict; that reading and writing conflict as document
 -- 01 says is stated by itself (proofs/Grants). Nothing else is shared: an action here carries the list of its ancestors from the moment it is opened, and nobody
 -- walks from parent to parent.
-use Rattle.std.specs.Prelude.{Bool, true, false, not, ◌&&◌, ◌||◌, List, [], ◌∷◌, ℕ, eqb, leb}
+use Rattle.std.specs.Prelude.{Bool, true, false, not, ◌&&◌, ◌||◌, List, [], ◌∷◌, ℕ, eqb, leb, if◌then◌else◌}
 use Rattle.std.proofs.Math.Option.{Option, none, some}
-use Rattle.rules.specs.Tests.{if◌then◌else◌, ◌⇒◌, all, any, from}
+use Rattle.rules.specs.Tests.{◌⇒◌, all, any, from}
 use Rattle.rules.specs.Bench.{Shape}
 use Rattle.rules.specs.Requests.{Request, open_top, open_sub, ask, commit, abort, quiet, put}
 

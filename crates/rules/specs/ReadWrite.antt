@@ -1,6 +1,5 @@
 -- Read and write on 64 actions and 128 instruments: the instance that document 01 builds.
-use Rattle.std.specs.Prelude.{Bool, not, ◌&&◌, ℕ, eqb}
-use Rattle.rules.specs.Tests.{if◌then◌else◌}
+use Rattle.std.specs.Prelude.{Bool, not, ◌&&◌, ℕ, eqb, if◌then◌else◌}
 use Rattle.rules.specs.Bench.{Shape}
 use Rattle.rules.specs.Requests.{Request, ask}
 

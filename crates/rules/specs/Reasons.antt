@@ -4,9 +4,9 @@
 --   0, 7, 8  nobody                                                   5   the smallest running child
 --   1 to 4   the offending number, of two the first in the frame      6   the smallest-numbered owner that blocks, running or draining
 --                                                                     10  a, of which quiet was said
-use Rattle.std.specs.Prelude.{Bool, false, not, ◌&&◌, ℕ, zero, suc, eqb, leb}
+use Rattle.std.specs.Prelude.{Bool, false, not, ◌&&◌, ℕ, zero, suc, eqb, leb, if◌then◌else◌}
 use Rattle.std.proofs.Math.Option.{Option, none, some}
-use Rattle.rules.specs.Tests.{if◌then◌else◌, any, from}
+use Rattle.rules.specs.Tests.{any, from}
 use Rattle.rules.specs.Bench.{Shape, Bench, is_running}
 use Rattle.rules.specs.Owners.{is_child, is_owner, is_asker_or_ancestor, drains_under}
 use Rattle.rules.specs.Requests.{Request, open_top, open_sub, ask, commit, abort, quiet}

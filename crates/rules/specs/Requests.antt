@@ -1,8 +1,8 @@
 -- The requests (document 01, "The six requests", and document 02, order 2, for abort and quiet): what each does when it is accepted. Read and write
 -- are one request, `ask`, in two modes.
-use Rattle.std.specs.Prelude.{Bool, true, false, not, ◌&&◌, ◌||◌, ℕ, eqb}
+use Rattle.std.specs.Prelude.{Bool, true, false, not, ◌&&◌, ◌||◌, cond, ℕ, eqb, if◌then◌else◌}
 use Rattle.std.proofs.Math.Option.{Option, none, some}
-use Rattle.rules.specs.Tests.{if◌then◌else◌, from}
+use Rattle.rules.specs.Tests.{from}
 use Rattle.rules.specs.Bench.{Shape, State, free, running, committed, draining, Bench}
 use Rattle.rules.specs.Owners.{in_family, drains_under, stand_somewhere}
 
@@ -16,7 +16,7 @@ pub data Request : Type 0 where
 
 -- f, but v at n
 abbrev pub put {ℓ} : {A : Type ℓ} → ℕ → A → (ℕ → A) → ℕ → A
-put n v f k = if eqb k n then v else f k
+put n v f k = cond (eqb k n) v (f k)
 
 -- The numbers that are gone become free and leave all sets.
 abbrev pub without : (ℕ → Bool) → Bench → Bench

@@ -1,12 +1,8 @@
--- Tests that compute: a choice by a test, an implication, and a test of all or any of the numbers below a bound.
-use Rattle.std.specs.Prelude.{Bool, true, false, ◌&&◌, ◌||◌, cond, ℕ, zero, suc}
+-- Tests that compute: an implication, and a test of all or any of the numbers below a bound.
+use Rattle.std.specs.Prelude.{Bool, true, false, ◌&&◌, ◌||◌, ℕ, zero, suc}
 use Rattle.std.proofs.Math.Option.{Option, none, some}
 
-infixr 5 if◌then◌else◌
 infixr 25 ◌⇒◌
-abbrev pub if◌then◌else◌ {ℓ} : {A : Type ℓ} → Bool → A → A → A
-if t then x else y = cond t x y
-
 -- if the first test holds, so does the second
 abbrev pub ◌⇒◌ : Bool → Bool → Bool
 true ⇒ t = t

@@ -1,7 +1,6 @@
 -- The saved form of a bench whose image is lent: what is told, written and loaded is that of its record. Slices that are no image are answered 7, and
 -- nothing changes.
-use Rattle.std.specs.Prelude.{List, ◌++◌, ◌≡◌, ℕ, length}
-use Rattle.rules.specs.Tests.{if◌then◌else◌}
+use Rattle.std.specs.Prelude.{List, ◌++◌, ◌≡◌, ℕ, length, if◌then◌else◌}
 use Rattle.image.specs.Image.{is_image, record_of, StoredAs}
 use Rattle.saving.specs.declared.Saved.{Saved}
 use Rattle.saved.specs.Saved.{saved_as, sized_as, buffer_after, load_of}

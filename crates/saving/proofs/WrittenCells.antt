@@ -1,4 +1,5 @@
 -- What the numbers or the instruments add to the text, written and counted one at a time.
+use Rattle.std.specs.Prelude.{if◌then◌else◌}
 use mathlib.Core.Path.{◌≡◌, refl, sym, ◌∙◌, ap}
 use mathlib.Core.Bool.{Bool, true, false}
 use mathlib.Core.List.{List, [], ◌++◌}
@@ -8,7 +9,6 @@ use native.Mathlib.Numerals.{add-one}
 use native.Mathlib.Omega.{arith}
 use lib.ListN.{length, get_or, length-append}
 use lib.Seq.{sets, length-sets}
-use Rattle.rules.specs.Tests.{if◌then◌else◌}
 use Rattle.rules.proofs.Tests.{by_bool}
 use Rattle.forms.specs.Kinds.{frame_size, Kind}
 use Rattle.forms.specs.Text.{frame_of, cell_of, cells_from}

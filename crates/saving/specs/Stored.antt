@@ -1,6 +1,5 @@
 -- A text that is stored in a buffer (document 01, "Saved form" and answer 9).
-use Rattle.std.specs.Prelude.{List, ◌++◌, ◌≡◌, ℕ, ltb, length, drop}
-use Rattle.rules.specs.Tests.{if◌then◌else◌}
+use Rattle.std.specs.Prelude.{List, ◌++◌, ◌≡◌, ℕ, ltb, length, drop, if◌then◌else◌}
 use Rattle.bench.specs.declared.Bench.{Bench}
 use Rattle.forms.specs.Text.{text_of}
 use Rattle.saving.specs.declared.Saved.{Saved}

@@ -1,6 +1,5 @@
 // How long what the numbers and the instruments add to a text is.
-ghost use Rattle.std.specs.Prelude.{◌≡◌, List, ℕ, ◌≤◌, length};
-ghost use Rattle.rules.specs.Tests.{if◌then◌else◌};
+ghost use Rattle.std.specs.Prelude.{◌≡◌, List, ℕ, ◌≤◌, length, if◌then◌else◌};
 ghost use Rattle.forms.specs.Kinds.{action, instrument};
 ghost use Rattle.forms.specs.Text.{cell_of, cells_from};
 

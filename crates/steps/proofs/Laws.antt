@@ -1,4 +1,5 @@
 -- On the arrays of a sound bench the steps are the steps of the rules: any step from its row and its change, and opens. Assumes nothing.
+use Rattle.std.specs.Prelude.{if◌then◌else◌}
 use mathlib.Core.Path.{◌≡◌, refl, sym, ◌∙◌, ap, subst}
 use mathlib.Core.List.{List, []}
 use mathlib.Core.Option.{Option, none, some}
@@ -6,7 +7,6 @@ use Prim.Native.Nat.{ℕ, ◌<◌}
 use native.Mathlib.Omega.{arith}
 use borrow.Author.Tests.{eqb-true, eqb-false}
 use lib.Dec.{eqb}
-use Rattle.rules.specs.Tests.{if◌then◌else◌}
 use Rattle.rules.specs.Requests.{Request, open_top, open_sub}
 use Rattle.rules.specs.Answers.{answer_of}
 use Rattle.rules.specs.ReadWrite.{read_write}

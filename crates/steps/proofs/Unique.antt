@@ -1,9 +1,9 @@
 -- Each step has one result: what was taken from the same arrays with the same numbers gave the same answer and left the same arrays. The other contracts are equations
 -- of what is handed back and of each list that was lent. Assumes nothing.
+use Rattle.std.specs.Prelude.{if◌then◌else◌}
 use mathlib.Core.Path.{◌≡◌, sym, ◌∙◌, ap}
 use Prim.Native.Nat.{ℕ}
 use lib.Dec.{eqb}
-use Rattle.rules.specs.Tests.{if◌then◌else◌}
 use Rattle.steps.specs.Arrays.{Arrays}
 use Rattle.steps.specs.Steps.{Took}
 

@@ -1,9 +1,8 @@
 -- The arrays of a bench as the steps are lent them: the bytes of parents and states, and the words of the owners, first the read sets of the 128 instruments and
 -- then the write sets. Any lists will do; those of a sound bench have their lengths.
-use Rattle.std.specs.Prelude.{Bool, true, false, List, ◌≡◌, ℕ, ◌+◌, ◌%◌, length, take, drop, get_or}
+use Rattle.std.specs.Prelude.{Bool, true, false, List, ◌≡◌, ℕ, ◌+◌, ◌%◌, length, take, drop, get_or, if◌then◌else◌}
 use Rattle.std.proofs.Math.Option.{Option}
 use Rattle.sets.specs.Sets.{union, meet}
-use Rattle.rules.specs.Tests.{if◌then◌else◌}
 use Rattle.rules.specs.Bench as rules
 use Rattle.rules.specs.Requests.{Request}
 use Rattle.views.specs.View.{view}

@@ -1,7 +1,6 @@
 -- What requests change in the arrays, whatever they hold.
-use Rattle.std.specs.Prelude.{Bool, true, false, List, [], ◌∷◌, map, ℕ, zero, suc, ◌+◌, ◌%◌, eqb, get_or, set}
+use Rattle.std.specs.Prelude.{Bool, true, false, List, [], ◌∷◌, map, ℕ, zero, suc, ◌+◌, ◌%◌, eqb, get_or, set, if◌then◌else◌}
 use Rattle.sets.specs.Sets.{member, union, difference, meet, with}
-use Rattle.rules.specs.Tests.{if◌then◌else◌}
 use Rattle.tables.specs.OneWord.{left_at}
 use Rattle.views.specs.Reach.{descends_known}
 use Rattle.views.specs.Arrays.{frees_by}

@@ -1,6 +1,5 @@
 -- The steps on any arrays: each gives a row for its answer, and changes the arrays where that is 0. On the arrays of a sound bench they are the steps of the rules.
-use Rattle.std.specs.Prelude.{Bool, ◌≡◌, ℕ, eqb, ltb}
-use Rattle.rules.specs.Tests.{if◌then◌else◌}
+use Rattle.std.specs.Prelude.{Bool, ◌≡◌, ℕ, eqb, ltb, if◌then◌else◌}
 use Rattle.rows.specs.Rows.{quiet_row, ask_row, busy_in, held_for, open_answer, end_answer}
 use Rattle.steps.specs.Arrays.{Arrays, conflicting_at, stand_at}
 use Rattle.steps.specs.Changes.{family_freed, group_in, opened, asked, ended, quieted}

@@ -1,4 +1,5 @@
 -- Arrays that change place by place: bytes of numbers that get another, one number at a time, and sets, one place at a time. Assumes nothing.
+use Rattle.std.specs.Prelude.{if◌then◌else◌}
 use mathlib.Core.Path.{◌≡◌, refl, sym, ◌∙◌}
 use mathlib.Core.Bool.{Bool, true, false, and-true}
 use mathlib.Core.List.{List}
@@ -11,7 +12,6 @@ use lib.ListN.{length, get_or, set, length-set, get_or-eq_default}
 use lib.Seq.{get_or-set_same, get_or-set_other}
 use Rattle.sets.specs.Sets.{member, difference}
 use Rattle.sets.proofs.Laws.{member_empty, no_members, member_difference, difference_fits}
-use Rattle.rules.specs.Tests.{if◌then◌else◌}
 use Rattle.rules.proofs.Tests.{by_bool, refuted}
 use Rattle.tables.specs.Changes.{given, kept, Changed}
 use Rattle.tables.proofs.Taken.{Taken}

@@ -1,4 +1,5 @@
 -- The nearest running number, met by going up from a number of any bytes; and on a sound bench, that it is the heir. Assumes nothing.
+use Rattle.std.specs.Prelude.{if◌then◌else◌}
 use mathlib.Core.Path.{◌≡◌, refl, ap}
 use mathlib.Core.Bool.{Bool, false, or-false}
 use mathlib.Core.List.{List}
@@ -7,7 +8,7 @@ use Prim.Native.Nat.{ℕ, zero, suc, ◌<◌}
 use borrow.Author.Tests.{eqb-true, eqb-false}
 use lib.Dec.{eqb}
 use lib.ListN.{get_or}
-use Rattle.rules.specs.Tests.{if◌then◌else◌, from}
+use Rattle.rules.specs.Tests.{from}
 use Rattle.rules.specs.Bench.{is_running}
 use Rattle.rules.specs.Owners.{nearest, heir}
 use Rattle.rules.proofs.Tests.{by_bool, by_parent, from_cong}

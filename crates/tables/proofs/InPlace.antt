@@ -1,5 +1,6 @@
 -- Requests on the table of a sound bench, in place: the row that was found is the answer, and the table that a request leaves is the step's and
 -- again that of a sound bench. Assumes nothing.
+use Rattle.std.specs.Prelude.{if◌then◌else◌}
 use mathlib.Core.Path.{◌≡◌, refl, sym, ◌∙◌, ap}
 use mathlib.Core.Bool.{Bool, true, false, ◌&&◌}
 use mathlib.Core.List.{List}
@@ -9,7 +10,7 @@ use native.Mathlib.Omega.{arith}
 use borrow.Author.Tests.{eqb-true, ltb-true, ltb-false}
 use lib.Dec.{eqb, ltb}
 use lib.ListN.{length, get_or, length-set, get_or-eq_default}
-use Rattle.rules.specs.Tests.{if◌then◌else◌, any}
+use Rattle.rules.specs.Tests.{any}
 use Rattle.rules.specs.Owners.{is_ancestor, in_family, drains_under, stand_somewhere}
 use Rattle.rules.specs.Requests.{Request, open_top, open_sub, ask, commit, abort, quiet, without, drained, effect}
 use Rattle.rules.specs.Answers.{row, row_by, answer_of, Outcome}

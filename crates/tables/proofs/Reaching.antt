@@ -1,10 +1,11 @@
 -- Going up by any table of parents until a number is hit: how it is met, and that what is met at all is met within one step less than there are numbers.
 -- Assumes nothing.
+use Rattle.std.specs.Prelude.{if◌then◌else◌}
 use mathlib.Core.Path.{◌≡◌, refl, sym, ap}
 use mathlib.Core.Bool.{Bool, true, false, ◌||◌, or-false}
 use mathlib.Core.Option.{Option, none, some, none-ne-some}
 use Prim.Native.Nat.{ℕ, zero, suc, ◌-◌, ◌<◌}
-use Rattle.rules.specs.Tests.{if◌then◌else◌, from}
+use Rattle.rules.specs.Tests.{from}
 use lib.Dec.{eqb}
 use Rattle.rules.specs.Owners.{above}
 use Rattle.rules.specs.Sound.{reaches_top}

@@ -1,5 +1,6 @@
 -- Rows of the answers. Those of an ask lie on those of a commit by the same action, and look at the sets only to grant; those of quiet look at one byte and at the
 -- instrument's sets. From a row found on parents, states and these sets to the answer on the whole bench. Assumes nothing.
+use Rattle.std.specs.Prelude.{if◌then◌else◌}
 use mathlib.Core.Path.{◌≡◌, sym, ◌∙◌}
 use mathlib.Core.Bool.{Bool, true, false, not, ◌&&◌, ◌||◌}
 use mathlib.Core.List.{List}
@@ -8,7 +9,7 @@ use native.Mathlib.Nat.{mod-eq_of_lt}
 use borrow.Author.Tests.{leb-false, lt-leb, not-false}
 use lib.Dec.{eqb, leb}
 use lib.ListN.{get_or}
-use Rattle.rules.specs.Tests.{if◌then◌else◌, any}
+use Rattle.rules.specs.Tests.{any}
 use Rattle.rules.specs.Bench as rules
 use Rattle.rules.specs.Bench.{Shape, is_running}
 use Rattle.rules.specs.Owners.{granted, has_running_child, drains_under, stand_at}

@@ -1,11 +1,12 @@
 -- What a request leaves as it was: an open and the commit of a subaction keep all sets, and an ask the sets of the other modes. Assumes nothing.
+use Rattle.std.specs.Prelude.{if◌then◌else◌}
 use mathlib.Core.Path.{◌≡◌, refl, sym, ◌∙◌, ap}
 use mathlib.Core.Bool.{Bool, true, false, or-false, false≢true}
 use mathlib.Core.Option.{Option, none, some}
 use Prim.Native.Nat.{ℕ, ◌%◌}
 use native.Mathlib.Nat.{mod-eq_of_lt}
 use lib.Dec.{eqb}
-use Rattle.rules.specs.Tests.{if◌then◌else◌, from}
+use Rattle.rules.specs.Tests.{from}
 use Rattle.rules.specs.Bench.{Shape, Bench, committed}
 use Rattle.rules.specs.Owners.{in_family}
 use Rattle.rules.specs.Requests.{open_top, open_sub, ask, commit, put, without, effect}

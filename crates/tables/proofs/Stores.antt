@@ -1,4 +1,5 @@
 -- How stores show in the view: the table after a request's stores is read as the bench that the request leaves. Assumes nothing.
+use Rattle.std.specs.Prelude.{if◌then◌else◌}
 use mathlib.Core.Path.{◌≡◌, refl, sym, ◌∙◌, ap}
 use mathlib.Core.Bool.{Bool, true, false, not, ◌&&◌, ◌||◌, or-false, and-true, and-false}
 use mathlib.Core.List.{List}
@@ -10,7 +11,7 @@ use lib.ListN.{length, get_or, set, replicate}
 use lib.Seq.{get_or-set_same, get_or-set_other}
 use Rattle.sets.specs.Sets.{member, with, difference}
 use Rattle.sets.proofs.Laws.{member_with, member_difference}
-use Rattle.rules.specs.Tests.{if◌then◌else◌, from}
+use Rattle.rules.specs.Tests.{from}
 use Rattle.rules.specs.Bench as rules
 use Rattle.rules.specs.Owners.{is_ancestor, in_family, drains_under, stand_somewhere}
 use Rattle.rules.specs.Requests.{open_top, open_sub, ask, commit, quiet, put, without, drained, quieted, effect}

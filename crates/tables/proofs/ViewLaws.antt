@@ -1,4 +1,5 @@
 -- Laws of the view: what parents' bytes and sets say to the tests of the rules, and what a sound bench says of its table. Assumes nothing.
+use Rattle.std.specs.Prelude.{if◌then◌else◌}
 use mathlib.Core.Path.{◌≡◌, refl, sym, ◌∙◌, ap}
 use mathlib.Core.Bool.{Bool, true, false, ◌&&◌}
 use mathlib.Core.List.{List}
@@ -10,7 +11,7 @@ use native.Mathlib.Omega.{arith}
 use borrow.Author.Tests.{eqb-true, not-true}
 use lib.Dec.{eqb, eqb-suc-suc, eqb-zero-suc}
 use lib.ListN.{get_or}
-use Rattle.rules.specs.Tests.{if◌then◌else◌, ◌⇒◌, all, any, from}
+use Rattle.rules.specs.Tests.{◌⇒◌, all, any, from}
 use Rattle.rules.specs.Bench.{State, is_free, is_running, head_of, in_tree}
 use Rattle.rules.specs.Owners.{is_ancestor, nearest, heir, is_asker_or_ancestor, heir_in_line, granted, has_running_child, drains_under, stand_somewhere}
 use Rattle.rules.specs.Sound.{means_something, sound}

@@ -1,6 +1,5 @@
 -- Arrays after a loop over them, and a table after the stores of a request.
-use Rattle.std.specs.Prelude.{Bool, List, ◌≡◌, ℕ, ◌+◌, ◌<◌, length, get_or, set}
-use Rattle.rules.specs.Tests.{if◌then◌else◌}
+use Rattle.std.specs.Prelude.{Bool, List, ◌≡◌, ℕ, ◌+◌, ◌<◌, length, get_or, set, if◌then◌else◌}
 use Rattle.tables.specs.Table.{Table}
 
 -- number k's byte when some numbers have got another: theirs is that one

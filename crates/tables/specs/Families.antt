@@ -1,7 +1,7 @@
 -- Families, gathered by passes over the parents: sets of the numbers below n as words of n bits.
-use Rattle.std.specs.Prelude.{Bool, true, false, not, List, ◌≡◌, ℕ, zero, suc, ◌+◌, ◌-◌, ◌≤◌, ◌<◌, eqb, get_or}
+use Rattle.std.specs.Prelude.{Bool, true, false, not, List, ◌≡◌, ℕ, zero, suc, ◌+◌, ◌-◌, ◌≤◌, ◌<◌, eqb, get_or, if◌then◌else◌}
 use Rattle.sets.specs.Sets.{member, with}
-use Rattle.rules.specs.Tests.{if◌then◌else◌, any}
+use Rattle.rules.specs.Tests.{any}
 use Rattle.tables.specs.Tree.{descends}
 
 -- No number from `first` on has a parent.

@@ -1,8 +1,8 @@
 -- Going up from a number, by parents' bytes of any value, until a number is met that is asked for: owners held in a line, and descendants.
-use Rattle.std.specs.Prelude.{Bool, true, false, ◌&&◌, ◌||◌, List, ◌≡◌, ℕ, zero, suc, ◌+◌, ◌-◌, ◌<◌, eqb, get_or}
+use Rattle.std.specs.Prelude.{Bool, true, false, ◌&&◌, ◌||◌, List, ◌≡◌, ℕ, zero, suc, ◌+◌, ◌-◌, ◌<◌, eqb, get_or, if◌then◌else◌}
 use Rattle.std.proofs.Math.Option.{Option, none}
 use Rattle.sets.specs.Sets.{member, meet}
-use Rattle.rules.specs.Tests.{if◌then◌else◌, any, from}
+use Rattle.rules.specs.Tests.{any, from}
 use Rattle.tables.specs.Tree.{known_up, met_from}
 use Rattle.tables.specs.Owners.{of_members}
 

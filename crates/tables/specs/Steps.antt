@@ -1,7 +1,6 @@
 -- A table in place: what it is known to be, and what a step does to it.
-use Rattle.std.specs.Prelude.{Bool, true, false, ◌||◌, List, ◌≡◌, ℕ, ◌<◌, ◌%◌, eqb, length, get_or}
+use Rattle.std.specs.Prelude.{Bool, true, false, ◌||◌, List, ◌≡◌, ℕ, ◌<◌, ◌%◌, eqb, length, get_or, if◌then◌else◌}
 use Rattle.std.proofs.Math.Option.{Option}
-use Rattle.rules.specs.Tests.{if◌then◌else◌}
 use Rattle.rules.specs.Owners.{in_family}
 use Rattle.rules.specs.Sound.{sound}
 use Rattle.rules.specs.Requests.{Request, commit, abort, without, effect}

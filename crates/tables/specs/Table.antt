@@ -1,7 +1,6 @@
 -- A table of any size: what its arrays hold, how they are laid out, and the bench of Moss's rules that they are read as.
-use Rattle.std.specs.Prelude.{Bool, List, ℕ, zero, suc, ltb, get_or}
+use Rattle.std.specs.Prelude.{Bool, List, ℕ, zero, suc, ltb, get_or, if◌then◌else◌}
 use Rattle.std.proofs.Math.Option.{Option, none, some}
-use Rattle.rules.specs.Tests.{if◌then◌else◌}
 use Rattle.rules.specs.Bench.{Shape, State, free, running, committed, draining, meaningless}
 use Rattle.rules.specs.Bench as rules
 

@@ -1,7 +1,6 @@
 -- The tree of actions: what parents' bytes say by themselves, and parents with states. Of a table only the number of its actions, n, comes in.
-use Rattle.std.specs.Prelude.{Bool, false, not, true, ◌||◌, List, ◌≡◌, ℕ, zero, suc, eqb, leb, get_or}
+use Rattle.std.specs.Prelude.{Bool, false, not, true, ◌||◌, List, ◌≡◌, ℕ, zero, suc, eqb, leb, get_or, if◌then◌else◌}
 use Rattle.std.proofs.Math.Option.{Option, none}
-use Rattle.rules.specs.Tests.{if◌then◌else◌}
 use Rattle.rules.specs.Bench as rules
 use Rattle.rules.specs.Bench.{Shape, State, free, running, committed, draining, meaningless}
 use Rattle.rules.specs.Owners.{above, nearest}

@@ -1,4 +1,5 @@
 -- A read or a write: its answer from the row of the owners in the conflicting sets, and the arrays that it leaves. Assumes nothing.
+use Rattle.std.specs.Prelude.{if◌then◌else◌}
 use mathlib.Core.Path.{◌≡◌, refl, sym, ◌∙◌, ap}
 use mathlib.Core.Bool.{Bool, true, false, not, ◌||◌, or-false, or_comm}
 use mathlib.Core.List.{List}
@@ -9,7 +10,7 @@ use lib.Dec.{eqb-suc-suc, eqb-suc-zero}
 use lib.ListN.{length, get_or, set, length-set}
 use Rattle.sets.specs.Sets.{member, with}
 use Rattle.sets.proofs.Laws.{member_union}
-use Rattle.rules.specs.Tests.{if◌then◌else◌, any}
+use Rattle.rules.specs.Tests.{any}
 use Rattle.rules.specs.Requests.{ask}
 use Rattle.rules.specs.Answers.{answer_of}
 use Rattle.rules.specs.Sound.{sound}

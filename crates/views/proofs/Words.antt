@@ -1,4 +1,5 @@
 -- The four arrays as one table: their lengths, the numbers that stand in their sets, and a family that has left them or drains. Assumes nothing.
+use Rattle.std.specs.Prelude.{if◌then◌else◌}
 use mathlib.Core.Path.{◌≡◌, refl, sym, ◌∙◌, ap}
 use mathlib.Core.Bool.{Bool, true, false, ◌||◌, or-false, or_comm}
 use mathlib.Core.List.{List}
@@ -9,7 +10,7 @@ use lib.Dec.{ltb}
 use lib.ListN.{length, get_or, replicate, get_or-eq_default}
 use Rattle.sets.specs.Sets.{member, union, difference, meet}
 use Rattle.sets.proofs.Laws.{member_union, member_empty}
-use Rattle.rules.specs.Tests.{if◌then◌else◌, all, any}
+use Rattle.rules.specs.Tests.{all, any}
 use Rattle.rules.specs.Bench as rules
 use Rattle.rules.specs.Owners.{in_family}
 use Rattle.rules.specs.Requests.{without}

@@ -1,7 +1,7 @@
 -- Sets of the 64 numbers as words: who stands in them.
-use Rattle.std.specs.Prelude.{Bool, ◌||◌, List, ◌≡◌, ℕ, get_or}
+use Rattle.std.specs.Prelude.{Bool, ◌||◌, List, ◌≡◌, ℕ, get_or, if◌then◌else◌}
 use Rattle.sets.specs.Sets.{member, union}
-use Rattle.rules.specs.Tests.{if◌then◌else◌, any}
+use Rattle.rules.specs.Tests.{any}
 use Rattle.tables.specs.Owners as tables
 
 -- the heir of each owner is the asker or an ancestor of it
