@@ -8,7 +8,7 @@ use Rattle.desk.proofs.Playing.{Left}
 use Rattle.desk.proofs.play_records.Given as goal
 
 abbrev pub invariant-loop-words : goal.invariant-loop-words
-invariant-loop-words l =    Left (view_of (lent l.initial.parents l.initial.states l.initial.owners)) l.initial.words (view_of (lent l.parents l.states l.owners)) l.words l.at × KnownLists l.is_sound (lent l.parents l.states l.owners)
+invariant-loop-words l = Left (view_of (lent l.initial.parents l.initial.states l.initial.owners)) l.initial.words (view_of (lent l.parents l.states l.owners)) l.words l.at × KnownLists l.is_sound (lent l.parents l.states l.owners)
 
 abbrev pub decreases-loop-words : goal.decreases-loop-words
 decreases-loop-words l = length l.words - l.at
