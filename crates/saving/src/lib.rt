@@ -38,7 +38,7 @@ fn write_text<'a>(
 ) -> usize
     requires { length (text_of (record { parents = parents.now; states = states.now; reads = reads.now; writes = writes.now })) ≤ length out.old }
     ensures { Written out.old 0 (text_of (record {
-      parents = parents.entry.now;
+      parents = parents.now;
       states = states.now;
       reads = reads.now;
       writes = writes.now;
@@ -58,7 +58,7 @@ pub fn store_text<'a>(
     writes: &'a [u64],
 ) -> Saved
     ensures { Stores (record {
-      parents = parents.entry.now;
+      parents = parents.now;
       states = states.now;
       reads = reads.now;
       writes = writes.now;
