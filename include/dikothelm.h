@@ -4,7 +4,7 @@
    and may write what only itself and its ancestors read or write. A committed subaction's locks count as its parent's. An aborted action that owns
    something drains: its locks stay, and stand in everybody's way, until each of its instruments is said to be quiet.
 
-   dikothelm_version and the dikothelm_image_ functions are the proved library; link target/staticlib/libdikothelm.a, which `rt staticlib dikothelm` proves
+   dikothelm_version and the dikothelm_image_ functions are the proved library; link target/staticlib/libdikothelm.a, which `.ci/build archive` proves
    and builds. Below them stand the same ones over a struct, and a few that only look at it: plain C, tested, not proved.
 
    No function allocates, prints or keeps anything between calls; every number and every content of a record has its answer.

@@ -21,7 +21,7 @@ use Rattle.bench.proofs.Bench.commit.Reads as of_commit
 use Rattle.bench.proofs.Bench.abort.Reads as of_abort
 use Rattle.bench.proofs.Bench.quiet.Reads as of_quiet
 use Rattle.lists.proofs.play_one.Reads as of_one
-use Rattle.lists.proofs.play_array.Reads as of_Array
+use Rattle.lists.proofs.play_array.Reads as of_array
 use Rattle.play.proofs.Player.feed.Reads as of_feed
 use Rattle.play.proofs.Player.explain.Reads as of_explain
 use Rattle.play.proofs.Player.finish.Reads as of_finish
@@ -58,8 +58,8 @@ module _ (b : Bench) (r : Reply) where
 pub one_ensures : (b : Bench) (q : Request) (r : Reply) → of_one.Learnt tt (b, (q, tt)) r (b, (q, tt)) → ReturnsOne b q r
 one_ensures b q r learnt = learnt
 
--- `play_list` is proved by hand, and so is its one caller in this repository, whose proof starts from `ReturnsList` (`lists` proofs/play_array).
-pub array_ensures : (κs : _) (lent : _) (r : Played) (after : _) → of_Array.Learnt κs lent r after → ReturnsList lent.0 lent.1.0 r.reply r.list
+-- `play_list` lends its list; `play_array`, its one caller in this repository, is read here.
+pub array_ensures : (κs : _) (lent : _) (r : Played) (after : _) → of_array.Learnt κs lent r after → ReturnsList lent.0 lent.1.0 r.reply r.list
 array_ensures κs lent r after learnt = learnt
 
 -- ---- the player

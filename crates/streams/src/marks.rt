@@ -61,12 +61,13 @@ fn is_moot(kind: ErrorKind) -> bool {
     )
 }
 
-// Writes the mark if it was asked for. Where descriptor 3 can't be written to, there is none.
+// Writes the mark if it was asked for. Where descriptor 3 can't be opened to write, there is none. It is opened to read too, so that a named pipe that nobody
+// reads keeps nobody waiting.
 fn mark<R: Files + Env + Clock>(rt: &R, character: u8) {
     if !asked(rt) {
         return;
     }
-    if let Ok(mut marks) = OpenOptions::new().append(true).open(rt, MARKS) {
+    if let Ok(mut marks) = OpenOptions::new().read(true).append(true).open(rt, MARKS) {
         let _ = write_some(rt, &mut marks, &[character]);
     }
 }
