@@ -26,7 +26,7 @@ fn takes(telling: bool, input: &[u8], out: &[u8]) -> usize
 
 impl Player {
     // Takes bytes of the input, of any size and cut anywhere, and writes a line for each line that ends in them.
-    #[inline(always)] // one copy of the player on the stack, as the C header states
+    #[inline(always)] // keeps the stack that the C header states
     pub(crate) fn play(self, telling: bool, input: &[u8], out: &mut [u8]) -> Fed
         ensures { FedAsBy (say_by «telling») (width_by «telling») self input.now out.old result out.new }
     {

@@ -29,3 +29,7 @@ least_taken n s fits more =
 
     was : member s (least n s) ≡ true
     was = least_member n s fits more
+
+-- the same of a number that is known to be the least
+pub taken_least : (n s k : ℕ) → k ≡ least n s → s < 2 ^ n → (s ≡ 0 → ⊥) → Taken n s k (without n s (least n s))
+taken_least n s k e fits more = rw e (least_taken n s fits more)

@@ -12,12 +12,10 @@ use Rattle.digits.specs.Digits.{digit_of}
 use Rattle.digits.proofs.values.Goals as goal
 
 -- the table as it is stored
-
 abbrev table : List ℕ
 table = set (set (set (set (set (set (set (set (set (set (set (set (set (set (set (set (replicate 256 16) 48 0) 49 1) 50 2) 51 3) 52 4) 53 5) 54 6) 55 7) 56 8) 57 9) 97 10) 98 11) 99 12) 100 13) 101 14) 102 15
 
 -- each entry is the value of its place, counted from i
-
 abbrev entries_fit : ℕ → List ℕ → Bool
 entries_fit i [] = true
 entries_fit i (v ∷ rest) = eqb v (digit_of i) && entries_fit (suc i) rest

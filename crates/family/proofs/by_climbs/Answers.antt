@@ -26,9 +26,7 @@ way_up-met-requires c =
 pub loop-rest-smaller-then-meet : goal.loop-rest-smaller-then-meet
 loop-rest-smaller-then-meet c =
     -- what is met from the least number that is left
-    let climbed : let args = c.args in
-    Met (λ j. eqb j args.a) (known_up args.parents.now) c.loop-rest.inside c.loop-rest.outside c.least-k.result c.way_up-met.result = let args = c.args in
-    c.way_up-met.ensures (λ j. eqb j args.a) c.loop-rest.invariant.sorted in
+    let climbed = c.way_up-met.ensures (λ j. eqb j c.args.a) c.loop-rest.invariant.sorted in
     -- what is left
     let falls : c.difference-rest-in-loop-rest.result < c.loop-rest.rest = let args = c.args in
     sorting_falls 64 (λ j. eqb j args.a) (known_up args.parents.now) (2 ^ 64 - 1) c.loop-rest.inside c.loop-rest.outside c.loop-rest.rest c.loop-rest.invariant
@@ -45,9 +43,7 @@ loop-rest-smaller-then-meet c =
 pub loop-rest-preserved-then-meet : goal.loop-rest-preserved-then-meet
 loop-rest-preserved-then-meet c =
     -- what is met from the least number that is left
-    let climbed : let args = c.args in
-    Met (λ j. eqb j args.a) (known_up args.parents.now) c.loop-rest.inside c.loop-rest.outside c.least-k.result c.way_up-met.result = let args = c.args in
-    c.way_up-met.ensures (λ j. eqb j args.a) c.loop-rest.invariant.sorted in
+    let climbed = c.way_up-met.ensures (λ j. eqb j c.args.a) c.loop-rest.invariant.sorted in
     let args = c.args in
     sorting_in 64 (λ j. eqb j args.a) (known_up args.parents.now) (2 ^ 64 - 1) c.loop-rest.inside c.loop-rest.outside c.loop-rest.rest c.loop-rest.invariant
     c.loop-rest-test.true
@@ -65,9 +61,7 @@ loop-rest-preserved-then-meet c =
 pub loop-rest-smaller : goal.loop-rest-smaller
 loop-rest-smaller c =
     -- what is met from the least number that is left
-    let climbed : let args = c.args in
-    Met (λ j. eqb j args.a) (known_up args.parents.now) c.loop-rest.inside c.loop-rest.outside c.least-k.result c.way_up-met.result = let args = c.args in
-    c.way_up-met.ensures (λ j. eqb j args.a) c.loop-rest.invariant.sorted in
+    let climbed = c.way_up-met.ensures (λ j. eqb j c.args.a) c.loop-rest.invariant.sorted in
     -- what is left
     let falls : c.difference-rest-in-loop-rest.result < c.loop-rest.rest = let args = c.args in
     sorting_falls 64 (λ j. eqb j args.a) (known_up args.parents.now) (2 ^ 64 - 1) c.loop-rest.inside c.loop-rest.outside c.loop-rest.rest c.loop-rest.invariant
@@ -84,9 +78,7 @@ loop-rest-smaller c =
 pub loop-rest-preserved : goal.loop-rest-preserved
 loop-rest-preserved c =
     -- what is met from the least number that is left
-    let climbed : let args = c.args in
-    Met (λ j. eqb j args.a) (known_up args.parents.now) c.loop-rest.inside c.loop-rest.outside c.least-k.result c.way_up-met.result = let args = c.args in
-    c.way_up-met.ensures (λ j. eqb j args.a) c.loop-rest.invariant.sorted in
+    let climbed = c.way_up-met.ensures (λ j. eqb j c.args.a) c.loop-rest.invariant.sorted in
     let args = c.args in
     sorting_out 64 (λ j. eqb j args.a) (known_up args.parents.now) (2 ^ 64 - 1) c.loop-rest.inside c.loop-rest.outside c.loop-rest.rest c.loop-rest.invariant
     c.loop-rest-test.true

@@ -12,7 +12,6 @@ use Rattle.loading.proofs.ReadHalves.{halves_entered, halves_passed}
 use Rattle.loading.proofs.take_action.Goals as goal
 
 -- the test of a frame with this ss and pp, as the code groups it
-
 test : (stands : Bool) (ss pp : ℕ) → (stands && state_fits ss && parent_fits pp) ≡ (stands && action.fits ss pp)
 test stands ss pp = and_assoc stands (state_fits ss) (parent_fits pp)
 

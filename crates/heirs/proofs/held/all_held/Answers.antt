@@ -10,7 +10,6 @@ use Rattle.tables.proofs.Held.{held_end, held_refused}
 use Rattle.heirs.proofs.held.all_held.Goals as goal
 
 -- nobody is outside
-
 joined : (cleared met j : ℕ) → member (union cleared met) j ≡ (member cleared j || (member met j && not (member 0 j)))
 joined cleared met j = member_union cleared met j ∙ ap (λ t. member cleared j || t) (rw (member_empty j) (sym (and-true (member met j))))
 
@@ -32,9 +31,7 @@ waiting-met-requires c =
 pub returns-then-not-meet : goal.returns-then-not-meet
 returns-then-not-meet c =
     -- what is met from the least owner that is left
-    let climbed : let a = c.args in
-    Met (member a.line) (waits_for a.parents.now a.states.now) c.loop-rest.cleared 0 c.least-k.result c.waiting-met.result = let a = c.args in
-    c.waiting-met.ensures (member a.line) c.loop-rest.invariant.sorted in
+    let climbed = c.waiting-met.ensures (member c.args.line) c.loop-rest.invariant.sorted in
     let a = c.args in
     held_refused 64 a.parents.now a.states.now (member a.line) a.owners c.loop-rest.cleared c.loop-rest.rest c.loop-rest.invariant
     c.loop-rest-test.true
@@ -47,9 +44,7 @@ returns-then-not-meet c =
 pub loop-rest-smaller : goal.loop-rest-smaller
 loop-rest-smaller c =
     -- what is met from the least owner that is left
-    let climbed : let a = c.args in
-    Met (member a.line) (waits_for a.parents.now a.states.now) c.loop-rest.cleared 0 c.least-k.result c.waiting-met.result = let a = c.args in
-    c.waiting-met.ensures (member a.line) c.loop-rest.invariant.sorted in
+    let climbed = c.waiting-met.ensures (member c.args.line) c.loop-rest.invariant.sorted in
     let a = c.args in
     sorting_falls 64 (member a.line) (waits_for a.parents.now a.states.now) a.owners c.loop-rest.cleared 0 c.loop-rest.rest c.loop-rest.invariant
     c.loop-rest-test.true
@@ -64,9 +59,7 @@ loop-rest-smaller c =
 pub loop-rest-preserved : goal.loop-rest-preserved
 loop-rest-preserved c =
     -- what is met from the least owner that is left
-    let climbed : let a = c.args in
-    Met (member a.line) (waits_for a.parents.now a.states.now) c.loop-rest.cleared 0 c.least-k.result c.waiting-met.result = let a = c.args in
-    c.waiting-met.ensures (member a.line) c.loop-rest.invariant.sorted in
+    let climbed = c.waiting-met.ensures (member c.args.line) c.loop-rest.invariant.sorted in
     let a = c.args in
     sorting_in 64 (member a.line) (waits_for a.parents.now a.states.now) a.owners c.loop-rest.cleared 0 c.loop-rest.rest c.loop-rest.invariant
     c.loop-rest-test.true

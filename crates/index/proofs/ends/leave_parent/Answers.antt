@@ -1,44 +1,31 @@
 -- `leave_parent` meets its contract: a byte that names no parent leaves the children as they were. Assumes nothing.
-use Prim.Native.Nat.{◌<◌, ◌≤◌}
 use Rattle.tables.proofs.Gathering.{names_known}
 use borrow.Author.Rules.{rules}
 use Rattle.index.proofs.ends.leave_parent.Goals as goal
 
 pub overflow_sub-up : goal.overflow_sub-up
 overflow_sub-up c =
-    -- the byte names a number
-    let named : (0 < c.args.up) × (c.args.up ≤ 64) = names_known 64 c.args.up c.if-up.true in
-    let known = named in search rules
+    let known = names_known 64 c.args.up c.if-up.true in search rules
 
 pub offset_bounds-index-up : goal.offset_bounds-index-up
 offset_bounds-index-up c =
-    -- the byte names a number
-    let named : (0 < c.args.up) × (c.args.up ≤ 64) = names_known 64 c.args.up c.if-up.true in
-    let known = named in search rules
+    let known = names_known 64 c.args.up c.if-up.true in search rules
 
 pub bounds-index-up : goal.bounds-index-up
 bounds-index-up c =
-    -- the byte names a number
-    let named : (0 < c.args.up) × (c.args.up ≤ 64) = names_known 64 c.args.up c.if-up.true in
-    let known = named in search rules
+    let known = names_known 64 c.args.up c.if-up.true in search rules
 
 pub overflow_sub-index : goal.overflow_sub-index
 overflow_sub-index c =
-    -- the byte names a number
-    let named : (0 < c.args.up) × (c.args.up ≤ 64) = names_known 64 c.args.up c.if-up.true in
-    let known = named in search rules
+    let known = names_known 64 c.args.up c.if-up.true in search rules
 
 pub offset_bounds-index-up-then-up : goal.offset_bounds-index-up-then-up
 offset_bounds-index-up-then-up c =
-    -- the byte names a number
-    let named : (0 < c.args.up) × (c.args.up ≤ 64) = names_known 64 c.args.up c.if-up.true in
-    let known = named in search rules
+    let known = names_known 64 c.args.up c.if-up.true in search rules
 
 pub bounds-index-up-then-up : goal.bounds-index-up-then-up
 bounds-index-up-then-up c =
-    -- the byte names a number
-    let named : (0 < c.args.up) × (c.args.up ≤ 64) = names_known 64 c.args.up c.if-up.true in
-    let known = named in search rules
+    let known = names_known 64 c.args.up c.if-up.true in search rules
 
 pub returns-then-up : goal.returns-then-up
 returns-then-up c =

@@ -1,6 +1,5 @@
 use mathlib.Core.Path.{refl, ◌∙◌, sym}
-use Rattle.sets.specs.Sets.{least, without}
-use Rattle.tables.proofs.Taken.{Taken, least_taken}
+use Rattle.tables.proofs.Taken.{taken_least}
 use Rattle.index.proofs.Walks.{still_turn, still_none, still_hit}
 use Rattle.index.proofs.places.still_in.Goals as goal
 
@@ -10,7 +9,7 @@ loop-rest-init c = (c.ranges.places.fits, refl)
 pub stand_in_place-requires : goal.stand_in_place-requires
 stand_in_place-requires c =
     -- the place that a turn takes
-    let take : Taken 64 c.loop-rest.rest c.least-first.result (without 64 c.loop-rest.rest (least 64 c.loop-rest.rest)) = rw c.least-first.ensures (least_taken 64 c.loop-rest.rest c.loop-rest.invariant.0 c.loop-rest-test.true) in
+    let take = taken_least 64 c.loop-rest.rest c.least-first.result c.least-first.ensures c.loop-rest.invariant.0 c.loop-rest-test.true in
     take.known
 
 pub returns-then-stand_in_place : goal.returns-then-stand_in_place
@@ -22,13 +21,13 @@ returns-then-stand_in_place c =
 pub loop-rest-smaller : goal.loop-rest-smaller
 loop-rest-smaller c =
     -- the place that a turn takes
-    let take : Taken 64 c.loop-rest.rest c.least-first.result (without 64 c.loop-rest.rest (least 64 c.loop-rest.rest)) = rw c.least-first.ensures (least_taken 64 c.loop-rest.rest c.loop-rest.invariant.0 c.loop-rest-test.true) in
+    let take = taken_least 64 c.loop-rest.rest c.least-first.result c.least-first.ensures c.loop-rest.invariant.0 c.loop-rest-test.true in
     rw c.without_least-rest.ensures take.falls
 
 pub loop-rest-preserved : goal.loop-rest-preserved
 loop-rest-preserved c =
     -- the place that a turn takes
-    let take : Taken 64 c.loop-rest.rest c.least-first.result (without 64 c.loop-rest.rest (least 64 c.loop-rest.rest)) = rw c.least-first.ensures (least_taken 64 c.loop-rest.rest c.loop-rest.invariant.0 c.loop-rest-test.true) in
+    let take = taken_least 64 c.loop-rest.rest c.least-first.result c.least-first.ensures c.loop-rest.invariant.0 c.loop-rest-test.true in
     rw c.without_least-rest.ensures (
       take.fits,
       still_turn c.args.owners.now c.args.numbers c.loop-rest.rest c.least-first.result _ take c.least-first.ensures

@@ -5,26 +5,26 @@ use mathlib.Core.Option.{some}
 use mathlib.Core.Path.{◌≡◌, refl, sym, ◌∙◌}
 use native.Mathlib.Nat.{mod-eq_of_lt}
 use native.Mathlib.Omega.{arith}
-use Rattle.sets.specs.Sets.{member, without, least}
+use Rattle.sets.specs.Sets.{member, without}
 use Rattle.sets.proofs.Laws.{without_falls}
 use Rattle.rules.proofs.Tests.{clash}
 use Rattle.tables.specs.Table.{parent_of}
 use Rattle.tables.specs.Tree.{up_of}
 use Rattle.tables.proofs.Bytes.{parents_known, names_one}
-use Rattle.tables.proofs.Taken.{Taken, least_taken}
+use Rattle.tables.proofs.Taken.{taken_least}
 use Rattle.tables.proofs.Climbs.{climbing_start, climbing_turn, climbing_ends, climbing_ring}
 use Rattle.soundness.proofs.chains.climb.Goals as goal
 
 pub bounds-parents-least : goal.bounds-parents-least
 bounds-parents-least c =
     -- the number that the climb starts from
-    let first : let rest = c.args.rest.now in Taken 64 rest c.least.result (without 64 rest (least 64 rest)) = rw c.least.ensures (least_taken 64 c.args.rest.now (search rules) c.requires.0) in
+    let first = taken_least 64 c.args.rest.now c.least.result c.least.ensures (search rules) c.requires.0 in
     first.known
 
 pub loop-up-init : goal.loop-up-init
 loop-up-init c =
     -- the number that the climb starts from
-    let first : let rest = c.args.rest.now in Taken 64 rest c.least.result (without 64 rest (least 64 rest)) = rw c.least.ensures (least_taken 64 c.args.rest.now (search rules) c.requires.0) in
+    let first = taken_least 64 c.args.rest.now c.least.result c.least.ensures (search rules) c.requires.0 in
     let parents = c.args.parents.now in
     let rest = c.args.rest.now in
     let k = c.least.result in

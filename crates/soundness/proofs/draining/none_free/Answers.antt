@@ -3,9 +3,8 @@ use borrow.Author.Tests.{ne_eqb}
 use lib.ListN.{get_or}
 use mathlib.Core.Bool.{not}
 use mathlib.Core.Path.{refl, sym, ◌∙◌, ap}
-use Rattle.sets.specs.Sets.{without, least}
 use Rattle.tables.proofs.Members.{of_nobody, of_one_refused, of_one_passed}
-use Rattle.tables.proofs.Taken.{Taken, least_taken}
+use Rattle.tables.proofs.Taken.{taken_least}
 use Rattle.tables.specs.Tree.{in_use}
 use Rattle.soundness.proofs.draining.none_free.Goals as goal
 
@@ -15,26 +14,26 @@ loop-rest-init c = (search rules, refl)
 pub bounds-states-k : goal.bounds-states-k
 bounds-states-k c =
     -- the number that a turn takes
-    let take : Taken 64 c.loop-rest.rest c.least-k.result (without 64 c.loop-rest.rest (least 64 c.loop-rest.rest)) = rw c.least-k.ensures (least_taken 64 c.loop-rest.rest c.loop-rest.invariant.0 c.loop-rest-test.true) in
+    let take = taken_least 64 c.loop-rest.rest c.least-k.result c.least-k.ensures c.loop-rest.invariant.0 c.loop-rest-test.true in
     take.known
 
 pub returns-then-states-k-eq-FREE : goal.returns-then-states-k-eq-FREE
 returns-then-states-k-eq-FREE c =
     -- the number that a turn takes
-    let take : Taken 64 c.loop-rest.rest c.least-k.result (without 64 c.loop-rest.rest (least 64 c.loop-rest.rest)) = rw c.least-k.ensures (least_taken 64 c.loop-rest.rest c.loop-rest.invariant.0 c.loop-rest-test.true) in
+    let take = taken_least 64 c.loop-rest.rest c.least-k.result c.least-k.ensures c.loop-rest.invariant.0 c.loop-rest-test.true in
     sym (sym c.loop-rest.invariant.1
     ∙ of_one_refused 64 c.loop-rest.rest c.least-k.result _ (in_use c.args.states.now) take (rw c.if-states-k-eq-FREE.true))
 
 pub loop-rest-smaller : goal.loop-rest-smaller
 loop-rest-smaller c =
     -- the number that a turn takes
-    let take : Taken 64 c.loop-rest.rest c.least-k.result (without 64 c.loop-rest.rest (least 64 c.loop-rest.rest)) = rw c.least-k.ensures (least_taken 64 c.loop-rest.rest c.loop-rest.invariant.0 c.loop-rest-test.true) in
+    let take = taken_least 64 c.loop-rest.rest c.least-k.result c.least-k.ensures c.loop-rest.invariant.0 c.loop-rest-test.true in
     rw c.without_least-rest.ensures take.falls
 
 pub loop-rest-preserved : goal.loop-rest-preserved
 loop-rest-preserved c =
     -- the number that a turn takes
-    let take : Taken 64 c.loop-rest.rest c.least-k.result (without 64 c.loop-rest.rest (least 64 c.loop-rest.rest)) = rw c.least-k.ensures (least_taken 64 c.loop-rest.rest c.loop-rest.invariant.0 c.loop-rest-test.true) in
+    let take = taken_least 64 c.loop-rest.rest c.least-k.result c.least-k.ensures c.loop-rest.invariant.0 c.loop-rest-test.true in
     let states = c.args.states.now in
     rw c.without_least-rest.ensures (
       take.fits,

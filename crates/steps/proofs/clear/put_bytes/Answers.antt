@@ -1,5 +1,4 @@
-use Rattle.sets.specs.Sets.{without, least}
-use Rattle.tables.proofs.Taken.{Taken, least_taken}
+use Rattle.tables.proofs.Taken.{taken_least}
 use Rattle.tables.proofs.Cleared.{going_start, going_turn, going_end}
 use Rattle.steps.proofs.Clears.{changed_put}
 use Rattle.steps.proofs.clear.put_bytes.Goals as goal
@@ -10,19 +9,19 @@ loop-rest-init c = going_start 64 c.args.byte c.args.bytes.now c.args.numbers c.
 pub bounds-bytes-k : goal.bounds-bytes-k
 bounds-bytes-k c =
     -- the number that a turn takes
-    let take : Taken 64 c.loop-rest.rest c.least-k.result (without 64 c.loop-rest.rest (least 64 c.loop-rest.rest)) = rw c.least-k.ensures (least_taken 64 c.loop-rest.rest c.loop-rest.invariant.fits c.loop-rest-test.true) in
+    let take = taken_least 64 c.loop-rest.rest c.least-k.result c.least-k.ensures c.loop-rest.invariant.fits c.loop-rest-test.true in
     take.known
 
 pub loop-rest-smaller : goal.loop-rest-smaller
 loop-rest-smaller c =
     -- the number that a turn takes
-    let take : Taken 64 c.loop-rest.rest c.least-k.result (without 64 c.loop-rest.rest (least 64 c.loop-rest.rest)) = rw c.least-k.ensures (least_taken 64 c.loop-rest.rest c.loop-rest.invariant.fits c.loop-rest-test.true) in
+    let take = taken_least 64 c.loop-rest.rest c.least-k.result c.least-k.ensures c.loop-rest.invariant.fits c.loop-rest-test.true in
     rw c.without_least-rest.ensures take.falls
 
 pub loop-rest-preserved : goal.loop-rest-preserved
 loop-rest-preserved c =
     -- the number that a turn takes
-    let take : Taken 64 c.loop-rest.rest c.least-k.result (without 64 c.loop-rest.rest (least 64 c.loop-rest.rest)) = rw c.least-k.ensures (least_taken 64 c.loop-rest.rest c.loop-rest.invariant.fits c.loop-rest-test.true) in
+    let take = taken_least 64 c.loop-rest.rest c.least-k.result c.least-k.ensures c.loop-rest.invariant.fits c.loop-rest-test.true in
     rw c.without_least-rest.ensures
     (going_turn 64 c.args.byte c.args.bytes.now c.args.numbers c.loop-rest.bytes c.loop-rest.rest c.least-k.result _ c.loop-rest.invariant
     take)

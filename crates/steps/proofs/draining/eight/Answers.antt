@@ -8,8 +8,6 @@ use Rattle.steps.proofs.Gathered.{Moved, moved_none, moved_more, moved_fits}
 use Rattle.steps.proofs.draining.eight.Invariants.{has}
 use Rattle.steps.proofs.draining.eight.Goals as goal
 
--- number k has the byte
-
 pub loop-k-init : goal.loop-k-init
 loop-k-init c = (search rules, moved_none (has c.args.states.now c.args.byte) (c.args.first + 8 - 0))
 

@@ -8,6 +8,7 @@ use lib.ListN.{get_or}
 use Rattle.steps.proofs.Gathered.{Moved}
 use Rattle.steps.proofs.draining.eight.Given as goal
 
+-- number k has the byte
 abbrev pub has : List ℕ → ℕ → ℕ → Bool
 has states byte k = eqb (get_or states k 0) byte
 

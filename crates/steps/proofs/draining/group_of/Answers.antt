@@ -7,8 +7,6 @@ use Rattle.steps.proofs.Gathered.{Moved, moved_none, moved_join, moved_fits, mov
 use Rattle.steps.proofs.draining.group_of.Invariants.{drains}
 use Rattle.steps.proofs.draining.group_of.Goals as goal
 
--- number k drains under a
-
 pub loop-k-init : goal.loop-k-init
 loop-k-init c = (search rules, refl, moved_none (drains c.args.states.now c.args.a) 64)
 

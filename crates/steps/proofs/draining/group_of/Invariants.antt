@@ -9,6 +9,7 @@ use lib.ListN.{get_or}
 use Rattle.steps.proofs.Gathered.{Moved}
 use Rattle.steps.proofs.draining.group_of.Given as goal
 
+-- number k drains under a
 abbrev pub drains : List ℕ → ℕ → ℕ → Bool
 drains states a k = eqb (get_or states k 0) (3 + a % 64)
 

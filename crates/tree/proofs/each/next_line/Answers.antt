@@ -14,7 +14,6 @@ use Rattle.tables.proofs.EachLine.{line_met}
 use Rattle.tree.proofs.each.next_line.Goals as goal
 
 -- the byte of a parent that was passed
-
 passed : (up k : ℕ) → (eqb up 0 || ltb k up) ≡ false → (0 < up) × (up ≤ k)
 passed up k t =
     let some = eqb-false up 0 (or_fails_left (eqb up 0) (ltb k up) t) in

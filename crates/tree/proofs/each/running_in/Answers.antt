@@ -8,8 +8,6 @@ use Rattle.tree.proofs.each.running_in.Invariants.{runs}
 use Rattle.tree.proofs.each.running_in.Goals as goal
 use Rattle.tree.proofs.each.running_in.Goals.{then-states-k-eq-RUNNING, else-states-k-eq-RUNNING}
 
--- number k runs
-
 pub loop-k-init : goal.loop-k-init
 loop-k-init c = (search rules, taken_none (runs c.args.states.now))
 

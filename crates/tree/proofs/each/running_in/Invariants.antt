@@ -8,6 +8,7 @@ use lib.ListN.{get_or}
 use Rattle.tables.proofs.Gathering.{TakenTo}
 use Rattle.tree.proofs.each.running_in.Given as goal
 
+-- number k runs
 abbrev pub runs : List ℕ → ℕ → Bool
 runs states k = eqb (get_or states k 0) 1
 
