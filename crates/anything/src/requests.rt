@@ -1,128 +1,52 @@
 // Drawn requests.
-use crate::draw::far;
+use crate::kinds::Kind;
 use bench::Bench;
-use trials::draw::following;
+use marks::requests::Request;
+use trials::draw::{Draws, near_or_far};
 
-// A request by its trace code, its two numbers, of which the second may have no meaning, and the drawn number that was the last to go into it.
-#[derive(Clone, Copy)]
-pub(crate) struct Request {
-    pub(crate) code: u64,
-    pub(crate) first: u32,
-    pub(crate) second: u32,
-    pub(crate) x: u64,
+// The byte of number n's state, 0 where there is no such number.
+fn state_of(b: &Bench, n: u32) -> u32 {
+    b.states.get(n as usize).copied().map_or(0, u32::from)
 }
 
-// Which request a drawn number stands for: in sixteen, 1 open top, 4 open sub, 3 read, 3 write, 1 commit, 1 abort and 3 quiet.
-fn code_of(choice: u64) -> u64 {
-    let c = choice % 16;
-    if c < 1 {
-        return 1;
-    }
-    if c < 5 {
-        return 2;
-    }
-    if c < 8 {
-        return 3;
-    }
-    if c < 11 {
-        return 4;
-    }
-    if c < 12 {
-        return 5;
-    }
-    if c < 13 {
-        return 6;
-    }
-    7
+// Whether number n runs.
+fn runs(b: &Bench, n: u32) -> bool {
+    state_of(b, n) == 1
 }
 
-// Below which number most requests stay, for each kind of record.
-fn numbers_of(kind: u64) -> u64 {
-    if kind == 1 {
-        return 4;
-    }
-    if kind == 4 {
-        return 10;
-    }
-    64
-}
-
-// Below which instrument most requests stay, for each kind of record.
-fn instruments_of(kind: u64) -> u64 {
-    if kind == 0 {
-        return 128;
-    }
-    if kind == 1 {
-        return 2;
-    }
-    if kind == 4 {
-        return 4;
-    }
-    if kind == 5 {
-        return 12;
-    }
-    10
-}
-
-// Below which number the second one of a request stays: an instrument for read, write and quiet.
-fn second_of(kind: u64, code: u64) -> u64 {
-    if code == 3 || code == 4 || code == 7 {
-        return instruments_of(kind);
-    }
-    numbers_of(kind)
-}
-
-// A number below the bound, or in one case of 40 one that may be anywhere.
-fn near_or_far(x: u64, below: u64, chance: u64) -> u32 {
-    if chance % 40 == 0 {
-        return far(x);
-    }
-    if below == 0 {
-        return 0;
-    }
-    (x % below % 4294967296) as u32
-}
-
-// Whether number n, with this state's byte, can be the one of a request: it runs, or for quiet it drains under itself.
-fn fits(code: u64, n: u32, state: u8) -> bool {
-    if code == 7 {
-        return state == (n % 64) as u8 + 3;
-    }
-    state == 1
+// Whether number n drains under itself.
+fn drains(b: &Bench, n: u32) -> bool {
+    state_of(b, n) == n.saturating_add(3)
 }
 
 // A number for a request: in three cases of four where n names one, the first that fits from n on, going round.
-fn aimed(states: &[u8; 64], code: u64, n: u32, chance: u64) -> u32 {
+fn aimed<F: Fn(u32) -> bool + Drop>(n: u32, chance: u64, fits: F) -> u32
+    requires { F.IsAlwaysCallable fits }
+{
     if n >= 64 || chance % 4 == 0 {
         return n;
     }
-    for step in 0..64u32 {
-        let at = (n % 64 + step) % 64;
-        if fits(code, at, states[at as usize]) {
-            return at;
-        }
-    }
-    n
+    (n..64).chain(0..n).find(|at| fits(*at)).unwrap_or(n)
 }
 
-// The next request, of a record of this kind.
-pub(crate) fn drawn(b: Bench, kind: u64, x: u64) -> Request {
-    let choice = following(x);
-    let drawn_first = following(choice);
-    let drawn_second = following(drawn_first);
-    let chance = following(drawn_second);
-    let code = code_of(choice);
-    let mut first = near_or_far(drawn_first, numbers_of(kind), chance);
-    let mut second = near_or_far(drawn_second, second_of(kind, code), chance / 64);
-    if code == 2 {
-        second = aimed(&b.states, code, second, chance / 4096);
-    } else if code != 1 {
-        first = aimed(&b.states, code, first, chance / 4096);
-    }
-    Request {
-        code: code,
-        first: first,
-        second: second,
-        x: chance,
+// The next request, of a record of this kind: in sixteen, 1 open top, 4 open sub, 3 read, 3 write, 1 commit, 1 abort and 3 quiet.
+pub(crate) fn drawn(b: &Bench, kind: Kind, draws: &mut Draws) -> Request {
+    let choice = draws.next();
+    let first = draws.next();
+    let second = draws.next();
+    let chance = draws.next();
+    let is_second_far = chance / 64 % 40 == 0;
+    let n = near_or_far(first, kind.numbers(), chance % 40 == 0);
+    let parent = near_or_far(second, kind.numbers(), is_second_far);
+    let i = near_or_far(second, kind.instruments(), is_second_far);
+    let running = |n: u32| aimed(n, chance / 4096, |at: u32| runs(b, at));
+    match choice % 16 {
+        0 => Request::OpenTop(n),
+        1..=4 => Request::OpenSub(n, running(parent)),
+        5..=7 => Request::Read(running(n), i),
+        8..=10 => Request::Write(running(n), i),
+        11 => Request::Commit(running(n)),
+        12 => Request::Abort(running(n)),
+        _ => Request::Quiet(aimed(n, chance / 4096, |at: u32| drains(b, at)), i),
     }
 }

@@ -22,7 +22,7 @@ use Rattle.views.specs.Arrays.{SoundArrays}
 use Rattle.views.proofs.Words.{family_left, family_aborted}
 use Rattle.steps.specs.Changes.{bytes_left, bytes_put, sets_left, aborted_byte}
 use Rattle.steps.proofs.Clears.{bytes_put_lem, sets_left_lem}
-use Rattle.answering.specs.Draining.{DrainByte}
+use Rattle.bench.specs.Draining.{DrainByte}
 
 -- `gone` is the word that was gathered for the family of a
 module _ {parents states reads writes : List ℕ} (pre : SoundArrays parents states reads writes) (a gone : ℕ) (la : a < 64)

@@ -33,7 +33,7 @@ use Rattle.views.proofs.Quiets.{quiet_stays, quiet_frees}
 use Rattle.steps.specs.Changes.{bytes_put, bytes_left, group_in}
 use Rattle.steps.proofs.Clears.{bytes_put_lem, changed_put}
 use Rattle.steps.proofs.Gathered.{set_fits, set_members, group_members}
-use Rattle.answering.specs.Draining.{DrainByte, quiet_found}
+use Rattle.bench.specs.Draining.{DrainByte, quiet_found}
 
 -- Those that drain under a have the byte of numbers that do.
 pub group_stays : (states : List ℕ) (a : ℕ) → bytes_put (group_in states a) (3 + a % 64) states ≡ states

@@ -16,6 +16,10 @@ IsEmpty r = viewed r ≡ empty
 abbrev pub Returns : Bench → Request → Reply → Type 0
 Returns b q r = seen r ≡ step read_write (viewed b) q
 
+-- Request q has been made of record b in place: it was answered `answer` and has left `next`, as the method returns them.
+abbrev pub Became : Bench → Request → ℕ → Bench → Type 0
+Became b q answer next = Returns b q (record { bench = next; answer = answer })
+
 -- `Plays b qs given c`: the requests qs, each on the bench that the one before it handed back, from b on, were answered `given` and left c.
 pub data Plays : Bench → List Request → List ℕ → Bench → Type 0 where
   played : {b : Bench} → Plays b [] [] b

@@ -1,21 +1,11 @@
-// Words copied from list to list.
+// Words, of one size or another, copied from list to list.
 #![tactic(auto)]
 
-ghost use Rattle.std.specs.Prelude.{◌≡◌, ◌+◌, ◌≤◌, length, take, drop};
-ghost use Rattle.std.proofs.lemmas.List.Edits.{sets};
+ghost use Rattle.std.specs.Prelude.{◌≡◌};
 ghost use Rattle.copies.specs.Copies.{words_put, words_from};
 
-fn put_all(words: &mut [u64], at: usize, from: &[u64])
-    requires { at + length from.now ≤ length words.old }
-    ensures { words.new ≡ sets words.old at from.now }
-{
-    for k in 0..from.len() {
-        words[at + k] = from[k];
-    }
-}
-
 // Puts words into a list from a place on, and none where they don't all fit.
-pub fn put_words(words: &mut [u64], at: usize, from: &[u64])
+pub fn put_words<T: Copy>(words: &mut [T], at: usize, from: &[T])
     ensures { words.new ≡ words_put words.old at from.now }
 {
     if words.len() < from.len() {
@@ -24,29 +14,21 @@ pub fn put_words(words: &mut [u64], at: usize, from: &[u64])
     if words.len() - from.len() < at {
         return;
     }
-    put_all(words, at, from);
+    words[at..at + from.len()].copy_from_slice(from);
 }
 
-fn all_from(words: &[u64], at: usize) -> [u64; 128]
-    requires { at + 128 ≤ length words.now }
-    ensures { result ≡ take 128 (drop at words.now) }
+// So many words of a list from a place on, and blank ones where it doesn't have so many.
+#[inline(always)] // keeps the stack that the C header states: one copy of the words less
+pub fn words_from<T: Copy, const N: usize>(words: &[T], at: usize, blank: T) -> [T; N]
+    ensures { result ≡ words_from N blank words.now at }
 {
-    let mut copy = [0u64; 128];
-    for k in 0..128usize {
-        copy[k] = words[at + k];
+    if words.len() < N {
+        return [blank; N];
     }
+    if words.len() - N < at {
+        return [blank; N];
+    }
+    let mut copy = [blank; N];
+    copy.copy_from_slice(&words[at..at + N]);
     copy
-}
-
-// 128 words of a list from a place on, and zeros where it doesn't have so many.
-pub fn words_from(words: &[u64], at: usize) -> [u64; 128]
-    ensures { result ≡ words_from words.now at }
-{
-    if words.len() < 128 {
-        return [0u64; 128];
-    }
-    if words.len() - 128 < at {
-        return [0u64; 128];
-    }
-    all_from(words, at)
 }

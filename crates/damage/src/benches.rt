@@ -1,7 +1,7 @@
 // The benches whose texts are saved and damaged, each reached by requests.
 use bench::Bench;
-use trials::draw::following;
-use trials::requests::asked;
+use marks::requests::Request;
+use trials::draw::Draws;
 
 // The last number as a top action.
 pub(crate) fn one_top() -> Bench {
@@ -72,70 +72,38 @@ pub(crate) fn full() -> Bench {
     b
 }
 
-// A bench on a walk of drawn requests, and the last drawn number.
-#[derive(Clone, Copy)]
-pub(crate) struct Walk {
-    pub(crate) bench: Bench,
-    pub(crate) x: u64,
-}
-
-// Which request a drawn number stands for: in sixteen 2 open top, 4 open sub, 3 read, 3 write, 1 commit, 1 abort and 2 quiet.
-fn code_of(choice: u64) -> u64 {
-    let c = choice % 16;
-    if c < 2 {
-        return 1;
-    }
-    if c < 6 {
-        return 2;
-    }
-    if c < 9 {
-        return 3;
-    }
-    if c < 12 {
-        return 4;
-    }
-    if c < 13 {
-        return 5;
-    }
-    if c < 14 {
-        return 6;
-    }
-    7
-}
-
 // One of 16 numbers, the last among them.
 fn number_of(x: u64) -> u32 {
     (x % 16 * 4 + 3) as u32
 }
 
-// What the second number of a request is: a parent for open sub, and one of 8 instruments, the last among them, for read, write and quiet.
-fn second_of(code: u64, x: u64) -> u32 {
-    if code == 2 {
-        return number_of(x);
-    }
+// One of 8 instruments, the last among them.
+fn instrument_of(x: u64) -> u32 {
     (x % 8 * 18 + 1) as u32
 }
 
-// One drawn request.
-fn step(w: Walk) -> Walk {
-    let choice = following(w.x);
-    let first = following(choice);
-    let second = following(first);
-    let code = code_of(choice);
-    let before = w.bench;
-    let reply = asked(before, code, number_of(first), second_of(code, second));
-    let left = reply.bench;
-    Walk {
-        bench: left,
-        x: second,
+// A drawn request: in sixteen 2 open top, 4 open sub, 3 read, 3 write, 1 commit, 1 abort and 2 quiet.
+fn drawn(draws: &mut Draws) -> Request {
+    let choice = draws.next();
+    let n = number_of(draws.next());
+    let x = draws.next();
+    let i = instrument_of(x);
+    match choice % 16 {
+        0 | 1 => Request::OpenTop(n),
+        2..=5 => Request::OpenSub(n, number_of(x)),
+        6..=8 => Request::Read(n, i),
+        9..=11 => Request::Write(n, i),
+        12 => Request::Commit(n),
+        13 => Request::Abort(n),
+        _ => Request::Quiet(n, i),
     }
 }
 
-// Several drawn requests.
-pub(crate) fn walked(start: Walk, requests: u64) -> Walk {
-    let mut w = start;
-    for k in 0..requests {
-        w = step(w);
+// The bench after several drawn requests.
+pub(crate) fn walked(start: Bench, requests: u64, draws: &mut Draws) -> Bench {
+    let mut b = start;
+    for _ in 0..requests {
+        b = b.request(drawn(draws)).bench;
     }
-    w
+    b
 }

@@ -8,30 +8,22 @@ use trials::show::{count, last_sum};
 use trials::sums::folded_bytes;
 
 // How many bytes have the value that the buffer was filled with, which no text has.
-fn unchanged(buffer: &[u8]) -> u64 {
-    let mut count = 0;
-    for k in 0..buffer.len() {
-        if buffer[k] == 170 {
-            count = std::num::wrapping_add_u64(count, 1);
-        }
-    }
-    count
+fn unchanged(buffer: &[u8]) -> usize {
+    buffer.iter().filter(|byte| **byte == 170).count()
 }
 
 // Saves into the first bytes of a buffer, or into all of it where it has fewer.
 fn save_into_first(b: Bench, buffer: &mut [u8], room: usize) -> Saved {
-    if room <= buffer.len() {
-        return saved::save(b, &mut buffer[..room]);
-    }
-    saved::save(b, buffer)
+    let end = room.min(buffer.len());
+    saved::save(b, &mut buffer[..end])
 }
 
 // Writes the line of a save.
-fn show(rt: &impl Print, reply: Saved, buffer: [u8; 5320]) -> io::Result<()> {
+fn show(rt: &impl Print, reply: Saved, buffer: &[u8]) -> io::Result<()> {
     print!(rt; "{:02x}", reply.answer)?;
     count(rt, reply.count as u64)?;
-    count(rt, unchanged(&buffer))?;
-    last_sum(rt, folded_bytes(&buffer))?;
+    count(rt, unchanged(buffer) as u64)?;
+    last_sum(rt, folded_bytes(buffer))?;
     Ok(())
 }
 
@@ -39,7 +31,7 @@ fn show(rt: &impl Print, reply: Saved, buffer: [u8; 5320]) -> io::Result<()> {
 fn save_into(rt: &impl Print, b: Bench, room: usize) -> io::Result<()> {
     let mut buffer = [170u8; 5320];
     let reply = save_into_first(b, &mut buffer, room);
-    show(rt, reply, buffer)
+    show(rt, reply, &buffer)
 }
 
 // The full bench with its top action committed, which no request does.

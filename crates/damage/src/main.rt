@@ -10,80 +10,51 @@ mod tally;
 mod texts;
 
 use bench::Bench;
-use benches::Walk;
+use std::alloc::{AllocError, Global};
 use std::io;
 use tally::Tally;
-use texts::Text;
+use trials::draw::Draws;
 
-// The text of a bench on a walk, which has at most 440 bytes.
-fn text_of(b: Bench) -> Text {
-    let mut bytes = [0u8; 512];
-    let reply = saved::save(b, &mut bytes);
-    Text {
-        bytes: bytes,
-        count: reply.count,
+// The text of a bench with damage, 20 times, each loaded.
+fn load_twenty(
+    alloc: Global,
+    b: Bench,
+    tally: &mut Tally,
+    draws: &mut Draws,
+) -> Result<(), AllocError> {
+    let text = texts::text_of(alloc, b)?;
+    for _ in 0..20 {
+        let damaged = texts::damaged(alloc, text.as_slice(), draws)?;
+        tally.load(damaged.as_slice());
     }
-}
-
-// Where the damage stands: the last drawn number, and what came of the texts.
-#[derive(Clone, Copy)]
-struct Run {
-    x: u64,
-    tally: Tally,
-}
-
-// One text with damage, loaded.
-fn load_damaged(run: Run, text: Text) -> Run {
-    let damaged = texts::damaged(text, run.x);
-    let left = damaged.text;
-    let before = run.tally;
-    let tally = tally::with_load_of_first(before, &left.bytes, left.count);
-    Run {
-        x: damaged.x,
-        tally: tally,
-    }
-}
-
-// The text of a bench with damage, 20 times.
-fn load_twenty(start: Run, b: Bench) -> Run {
-    let mut run = start;
-    let text = text_of(b);
-    for k in 0..20u64 {
-        run = load_damaged(run, text);
-    }
-    run
+    Ok(())
 }
 
 // Texts of 200 benches on walks from an empty bench, 50 on each, two requests from one to the next, and their line.
-fn block(rt: &impl Print, number: u64, start: Run) -> io::Result<Run> {
-    let mut run = Run {
-        x: start.x,
-        tally: tally::none_yet(start.tally.sum),
-    };
-    let mut b = Bench::empty();
-    for k in 0..200u64 {
-        if k % 50 == 0 {
-            b = Bench::empty();
+fn block(
+    rt: &(impl Print + AllocGlobal),
+    number: u64,
+    sum: u64,
+    draws: &mut Draws,
+) -> io::Result<u64> {
+    let mut tally = Tally::none_yet(sum);
+    for _ in 0..4 {
+        let mut b = Bench::empty();
+        for _ in 0..50 {
+            b = benches::walked(b, 2, draws);
+            load_twenty(rt.alloc(), b, &mut tally, draws)?;
         }
-        let walk = benches::walked(Walk { bench: b, x: run.x }, 2);
-        b = walk.bench;
-        run.x = walk.x;
-        run = load_twenty(run, b);
     }
-    let tally = run.tally;
-    tally::show(rt, number, tally)?;
-    Ok(run)
+    tally.show(rt, number)?;
+    Ok(tally.sum)
 }
 
 fn main(rt: HostRuntime) -> io::Result<()> {
     edges::edges(&rt)?;
-    let sum = changes::changes(&rt, 0)?;
-    let mut run = Run {
-        x: 1,
-        tally: tally::none_yet(sum),
-    };
+    let mut sum = changes::changes(&rt, 0)?;
+    let mut draws = Draws { last: 1 };
     for number in 1..27u64 {
-        run = block(&rt, number, run)?;
+        sum = block(&rt, number, sum, &mut draws)?;
     }
     Ok(())
 }

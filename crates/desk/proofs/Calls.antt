@@ -1,10 +1,9 @@
 -- What a call leaves in an image and in the words of its list. Assumes nothing.
-use mathlib.Core.Path.{◌≡◌, refl, sym, ◌∙◌, ap}
+use mathlib.Core.Path.{◌≡◌, refl, sym, ◌∙◌}
 use mathlib.Core.Bool.{Bool, true, false, false≢true}
 use mathlib.Core.List.{List, ◌++◌}
 use Prim.Native.Nat.{ℕ}
 use native.Mathlib.Omega.{arith}
-use borrow.Author.Tests.{eq-eqb}
 use lib.ListN.{length, get_or, length-append, take, drop}
 use lib.Seq.{take_at, drop_at}
 use Rattle.sets.specs.Sets.{member}
@@ -14,8 +13,7 @@ use Rattle.tables.specs.Steps.{Long}
 use Rattle.views.specs.View.{layout, arrays}
 use Rattle.views.specs.Soundness.{sound_with}
 use Rattle.steps.specs.Arrays.{lent, view_of, read_sets, write_sets}
-use Rattle.image.specs.declared.Actions.{Actions}
-use Rattle.image.specs.Image.{is_image, image_view, actions_in, actions_stored}
+use Rattle.image.specs.Image.{is_image, image_view}
 use Rattle.image.proofs.Images.{ReadOut, image_long, second_half, read_view, read_sound, read_long}
 use Rattle.desk.specs.Desk.{too_long, ListPlayed, KnownLists, ListDone}
 
@@ -38,30 +36,24 @@ module _ (actions owners words : List ℕ) where
 
   -- ---- an image
 
-  module _ (image : is_image actions owners ≡ true) (found : Actions) (is : found ≡ actions_in actions) where
+  module _ (image : is_image actions owners ≡ true) {parents states : List ℕ} (is_parents : parents ≡ take 64 actions) (is_states : states ≡ drop 64 actions) where
     long : (length actions ≡ 128) × (length owners ≡ 256)
     long = image_long actions owners image
 
-    -- parents and states as they were found
-    out : ReadOut actions owners found.parents found.states
-    out =
-        let whole : found ≡ record { parents = take 64 actions; states = drop 64 actions } = is ∙ rw (eq-eqb (length actions) 128 long.0) in
-        record {
-          image = image;
-          is_parents = ap (λ f. f.parents) whole;
-          is_states = ap (λ f. f.states) whole ∙ sym (second_half 64 actions long.0);
-        }
+    -- parents and states are the two halves of its bytes
+    out : ReadOut actions owners parents states
+    out = record { image = image; is_parents = is_parents; is_states = is_states ∙ sym (second_half 64 actions long.0) }
 
     -- whether they are those of a sound bench is what the test found
-    pub image_known : (numbers : ℕ) (ok : Bool) → ((k : ℕ) → member numbers k ≡ any (length owners) (λ i. member (get_or owners i 0) k)) → ok ≡ sound_with found.parents found.states numbers → KnownLists ok (lent found.parents found.states owners)
+    pub image_known : (numbers : ℕ) (ok : Bool) → ((k : ℕ) → member numbers k ≡ any (length owners) (λ i. member (get_or owners i 0) k)) → ok ≡ sound_with parents states numbers → KnownLists ok (lent parents states owners)
     image_known numbers ok gathered e = record { table = record { long = read_long out; known = read_sound out numbers gathered e }; owners_long = long.1 }
 
-    -- the list is played, and parents and states are put back
-    pub image_played : {ok : Bool} {parents' states' actions' owners' words' : List ℕ} → too_long words ≡ false → ListDone ok (lent found.parents found.states owners) words (lent parents' states' owners') words' → actions' ≡ actions_stored (record { parents = parents'; states = states' }) actions → ListPlayed actions owners words 0 actions' owners' words'
+    -- the list is played
+    pub image_played : {ok : Bool} {parents' states' owners' words' : List ℕ} → too_long words ≡ false → ListDone ok (lent parents states owners) words (lent parents' states' owners') words' → ListPlayed actions owners words 0 (parents' ++ states') owners' words'
     unfolding call
-    image_played {parents' = parents'} {states' = states'} {actions' = actions'} {owners' = owners'} {words' = words'} short done stored =
+    image_played {parents' = parents'} {states' = states'} {owners' = owners'} {words' = words'} short done =
         record {
-          bytes_long = rw (put, length-append parents' states') (let p = lists.parents_long in let s = lists.states_long in let l = long.0 in omega arith);
+          bytes_long = rw (length-append parents' states') (let p = lists.parents_long in let s = lists.states_long in let l = long.0 in omega arith);
           sets_long = done.known.owners_long ∙ sym long.1;
           spare = done.spare;
           called = λ yes. rw (short, seen, ← read_view out, done.list, done.bench);
@@ -71,9 +63,6 @@ module _ (actions owners words : List ℕ) where
         lists : Long layout (arrays parents' states' (read_sets owners') (write_sets owners'))
         lists = done.known.table.long
 
-        put : actions' ≡ parents' ++ states'
-        put = stored ∙ rw (eq-eqb (length actions) 128 long.0)
-
-        seen : image_view actions' owners' ≡ view_of (lent parents' states' owners')
+        seen : image_view (parents' ++ states') owners' ≡ view_of (lent parents' states' owners')
         seen =
-            rw (put, take_at parents' states' 64 lists.parents_long, drop_at parents' states' 64 lists.parents_long, second_half 128 owners' done.known.owners_long)
+            rw (take_at parents' states' 64 lists.parents_long, drop_at parents' states' 64 lists.parents_long, second_half 128 owners' done.known.owners_long)

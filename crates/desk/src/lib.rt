@@ -4,43 +4,45 @@
 
 ghost use Rattle.std.specs.Prelude.{◌≡◌, true, false};
 ghost use Rattle.rules.specs.Frames.{framed};
+ghost use Rattle.marks.specs.Answers.{answer_number};
+ghost use Rattle.marks.specs.Requests.{meant_by};
 ghost use Rattle.steps.specs.Arrays.{lent};
 ghost use Rattle.image.specs.Image.{is_image};
 ghost use Rattle.desk.specs.Desk.{too_long, ListPlayed, KnownLists, EntryDone, ListDone};
 
-use image::{Actions, actions_of, is_image, store_actions};
-use marks::answers::{ACCEPTED, MALFORMED, TOO_LONG, UNSOUND};
-use marks::codes::QUIET;
+use image::{is_image, unsound_refusal};
+use marks::answers::{Answer, Refusal, number};
+use marks::requests::Request;
 use soundness::{sound, standing};
 use steps::engine::request;
 
 // A list has at most so many records.
 pub const LONGEST_LIST: usize = 32;
 
-// A record's request is made on the arrays of a bench of which it is known whether it is sound. Quiet's kind is the highest that a request has.
+// The request of a record, and none where its kind is no request's.
+fn request_of(kind: u32, x: u32, y: u32) -> Option<Request>
+    ensures { meant_by result ≡ framed kind x y }
+{
+    let code = u8::try_from(kind).ok()?;
+    Request::framed(code, x, y)
+}
+
+// A record's request is made on the arrays of a bench of which it is known whether it is sound.
 fn play_record(
     parents: &mut [u8; 64],
     states: &mut [u8; 64],
     owners: &mut [u64],
     is_sound: bool,
-    kind: u32,
-    x: u32,
-    y: u32,
-) -> u8
+    asked: Option<Request>,
+) -> Answer
     requires { KnownLists is_sound (lent parents.old states.old owners.old) }
-    ensures { EntryDone is_sound (framed kind x y) (lent parents.old states.old owners.old) result
-        (lent parents.new states.new owners.new) }
+    ensures { EntryDone is_sound (meant_by asked) (lent parents.old states.old owners.old)
+        (answer_number result) (lent parents.new states.new owners.new) }
 {
-    if kind > QUIET as u32 {
-        return MALFORMED;
-    }
     if is_sound {
-        return request(parents, states, owners, kind as u8, x, y);
+        return request(parents, states, owners, asked);
     }
-    if kind == 0 {
-        return MALFORMED;
-    }
-    UNSOUND
+    Err(unsound_refusal(asked))
 }
 
 // All whole records of the words are played in their order, each on the bench that the one before it left.
@@ -55,47 +57,39 @@ fn play_records(
     ensures { ListDone is_sound (lent parents.old states.old owners.old) words.old
         (lent parents.new states.new owners.new) words.new }
 {
-    let mut at = 0;
-    while words.len() - at > 3 {
-        let kind = words[at];
-        let x = words[at + 1];
-        let y = words[at + 2];
-        let answer = play_record(parents, states, owners, is_sound, kind, x, y);
-        words[at + 3] = answer as u32;
-        at += 4;
+    // By places and not by chunks: of words written through `chunks_exact_mut` a proof knows nothing afterwards.
+    for k in 0..words.len() / 4 {
+        let at = 4 * k;
+        let asked = request_of(words[at], words[at + 1], words[at + 2]);
+        let answer = play_record(parents, states, owners, is_sound, asked);
+        words[at + 3] = u32::from(number(answer));
     }
 }
 
-// A list that isn't too long is played on an image: parents and states are copied and put back once, and the sets are used in place.
-fn play_on_image(actions: &mut [u8], owners: &mut [u64], words: &mut [u32]) -> u8
+// A list that isn't too long is played on an image, in place.
+fn play_on_image(actions: &mut [u8], owners: &mut [u64], words: &mut [u32])
     requires { (is_image actions.old owners.old ≡ true) × (too_long words.old ≡ false) }
-    ensures { ListPlayed actions.old owners.old words.old result actions.new owners.new words.new }
+    ensures { ListPlayed actions.old owners.old words.old 0 actions.new owners.new words.new }
 {
-    let found = actions_of(actions);
-    let mut parents = found.parents;
-    let mut states = found.states;
-    let is_sound = sound(&parents, &states, standing(owners));
-    play_records(&mut parents, &mut states, owners, is_sound, words);
-    store_actions(
-        Actions {
-            parents: parents,
-            states: states,
-        },
-        actions,
-    );
-    ACCEPTED
+    if let Some((parents, rest)) = actions.split_first_chunk_mut::<64>() {
+        if let Some(states) = rest.as_mut_array::<64>() {
+            let is_sound = sound(parents, states, standing(owners));
+            play_records(parents, states, owners, is_sound, words);
+        }
+    }
 }
 
 // Plays a list of request records on an image in place, with the answers of single calls in list order. A list of more than 32 is answered 11, and nothing is
 // done; else slices that are no image are answered 7, and else the call 0.
-pub fn play_words(actions: &mut [u8], owners: &mut [u64], words: &mut [u32]) -> u8
-    ensures { ListPlayed actions.old owners.old words.old result actions.new owners.new words.new }
+pub fn play_words(actions: &mut [u8], owners: &mut [u64], words: &mut [u32]) -> Answer
+    ensures { ListPlayed actions.old owners.old words.old (answer_number result) actions.new owners.new words.new }
 {
     if words.len() / 4 > LONGEST_LIST {
-        return TOO_LONG;
+        return Err(Refusal::TooLong);
     }
     if !is_image(actions, owners) {
-        return UNSOUND;
+        return Err(Refusal::Unsound);
     }
-    play_on_image(actions, owners, words)
+    play_on_image(actions, owners, words);
+    Ok(())
 }

@@ -3,14 +3,12 @@ use lists::Request;
 use trials::sums::folded;
 
 fn folded_request(sum: u64, q: Request) -> u64 {
-    let asked = folded(folded(folded(sum, q.kind as u64), q.x as u64), q.y as u64);
-    folded(asked, q.answer as u64)
+    let sum = folded(sum, u64::from(q.kind));
+    let sum = folded(sum, u64::from(q.x));
+    let sum = folded(sum, u64::from(q.y));
+    folded(sum, u64::from(q.answer))
 }
 
-pub(crate) fn folded_list(start: u64, list: [Request; 32]) -> u64 {
-    let mut sum = start;
-    for k in 0..32usize {
-        sum = folded_request(sum, list[k]);
-    }
-    sum
+pub(crate) fn folded_list(start: u64, list: &[Request]) -> u64 {
+    list.iter().fold(start, |sum, q| folded_request(sum, *q))
 }

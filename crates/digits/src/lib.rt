@@ -2,25 +2,17 @@
 #![tactic(auto)]
 
 ghost use Rattle.std.specs.Prelude.{◌≡◌, ◌%◌};
-ghost use Rattle.digits.specs.Digits.{hex_digit, digit_of, ValuesOfBytes};
+ghost use Rattle.digits.specs.Digits.{hex_digit, digit_in, ValuesOfBytes};
 
-// The value of a character 0-9 or a-f, and 16 for any other byte.
-pub fn value(c: u8) -> u8
-    ensures { result ≡ digit_of c }
+// The value of a character 0-9 or a-f; none for any other byte.
+pub fn value(c: u8) -> Option<u8>
+    ensures { result ≡ digit_in c }
 {
-    if c < 48 {
-        return 16;
+    match c {
+        b'0'..=b'9' => Some(c - b'0'),
+        b'a'..=b'f' => Some(c - b'a' + 10),
+        _ => None,
     }
-    if c <= 57 {
-        return c - 48;
-    }
-    if c < 97 {
-        return 16;
-    }
-    if c <= 102 {
-        return c - 87;
-    }
-    16
 }
 
 // The character of the lowest digit of d.
@@ -31,7 +23,8 @@ pub fn character(d: u8) -> u8
     if low < 10 { 48 + low } else { 87 + low }
 }
 
-// The values of all bytes: 16 but for the digits.
+// The values of all bytes: 16 but for the digits. A table of bytes and not of options: digits come at random, a processor guesses no branch on them, and one look-up
+// tells all. It is made for each chunk of input, so it is written out, with no loop.
 pub fn values() -> [u8; 256]
     ensures { ValuesOfBytes result }
 {

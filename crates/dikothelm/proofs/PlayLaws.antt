@@ -6,7 +6,7 @@ use Prim.Native.Nat.{ℕ, ◌%◌}
 use native.Mathlib.Omega.{arith}
 use borrow.Author.Tests.{eqb-true}
 use lib.Dec.{eqb}
-use lib.ListN.{length, get_or, set, take, drop, length-append}
+use lib.ListN.{length, get_or, take, drop, length-append}
 use Rattle.rules.proofs.Tests.{and_left, and_right}
 use Rattle.bench.specs.declared.Bench.{Bench}
 use Rattle.play.specs.declared.Player.{Player}
@@ -19,15 +19,6 @@ use Rattle.play.specs.Finishing.{said_last, fed_last, FinishedAs}
 use Rattle.lines.proofs.FeedLaws.{taken_long}
 use Rattle.image.proofs.Images.{put_view}
 use Rattle.dikothelm.specs.Calls.{playable, line_count, standing, Moved, Played, Finished}
-
--- four words, each replaced
-pub four_put : (l : List ℕ) (a b c d : ℕ) → length l ≡ 4 → set (set (set (set l 0 a) 1 b) 2 c) 3 d ≡ a ∷ b ∷ c ∷ d ∷ []
-four_put [] a b c d long = absurd (omega arith)
-four_put (w ∷ []) a b c d long = absurd (omega arith)
-four_put (w ∷ x ∷ []) a b c d long = absurd (omega arith)
-four_put (w ∷ x ∷ y ∷ []) a b c d long = absurd (omega arith)
-four_put (w ∷ x ∷ y ∷ z ∷ []) a b c d long = refl
-four_put (w ∷ x ∷ y ∷ z ∷ v ∷ rest) a b c d long = absurd (omega arith)
 
 pub none_moved : (to : Feeding) (used : ℕ) (text actions owners progress out : List ℕ) → playable actions owners progress ≡ false → Moved to used text actions owners progress out 7 actions owners progress out
 none_moved to used text actions owners progress out other =

@@ -1,5 +1,5 @@
 -- What each call does to an image that a C caller lends. Slices that are no image are answered 7, and nothing changes. (A request's call is
--- `Requested`, of the bench's `Image`.)
+-- `Requested`, of `Image` in crate `image`.)
 use Rattle.std.specs.Prelude.{Bool, true, false, ◌&&◌, List, [], ◌∷◌, ◌++◌, ◌≡◌, ℕ, ◌%◌, eqb, ltb, length, get_or, take, drop, if◌then◌else◌}
 use Rattle.rules.specs.Sound.{sound}
 use Rattle.rules.specs.ReadWrite.{read_write}

@@ -5,7 +5,7 @@ ghost use Rattle.play.specs.Feeding.{feeding};
 ghost use Rattle.dikothelm.specs.Calls.{playable, line_count, standing, Played, Finished};
 
 use image;
-use marks::answers::{ACCEPTED, UNSOUND};
+use marks::answers::{Refusal, number};
 use play::Player;
 
 // Whether the slices are an image and a player's progress.
@@ -19,10 +19,7 @@ fn is_playable(actions: &[u8], owners: &[u64], progress: &[u64]) -> bool
 fn line_count(word: u64) -> u8
     ensures { result ≡ line_count word }
 {
-    if word < 256 {
-        return word as u8;
-    }
-    7
+    u8::try_from(word).unwrap_or(7)
 }
 
 // The caller's player.
@@ -30,9 +27,8 @@ fn player_of(actions: &[u8], owners: &[u64], progress: &[u64]) -> Player
     requires { playable actions.now owners.now progress.now ≡ true }
     ensures { feeding result ≡ standing actions.now owners.now progress.now }
 {
-    let bench = image::bench_of(actions, owners);
     Player {
-        bench: bench,
+        bench: image::bench_of(actions, owners),
         count: line_count(progress[0]),
         value: (progress[1] % 4294967296) as u32,
     }
@@ -42,8 +38,8 @@ fn put_progress(progress: &mut [u64], count: u8, value: u32, used: usize, writte
     requires { length progress.old ≡ 4 }
     ensures { progress.new ≡ count ∷ value ∷ used ∷ written ∷ [] }
 {
-    progress[0] = count as u64;
-    progress[1] = value as u64;
+    progress[0] = u64::from(count);
+    progress[1] = u64::from(value);
     progress[2] = used as u64;
     progress[3] = written as u64;
 }
@@ -61,15 +57,19 @@ pub extern "C" fn dikothelm_image_play(
         out.old result actions.new owners.new progress.new out.new }
 {
     if !is_playable(actions, owners, progress) {
-        return UNSOUND;
+        return number(Err(Refusal::Unsound));
     }
     let player = player_of(actions, owners, progress);
     let fed = player.feed(input, out);
-    let after = fed.player;
-    let bench = after.bench;
-    image::store(bench, actions, owners);
-    put_progress(progress, after.count, after.value, fed.used, fed.written);
-    ACCEPTED
+    image::store(fed.player.bench, actions, owners);
+    put_progress(
+        progress,
+        fed.player.count,
+        fed.player.value,
+        fed.used,
+        fed.written,
+    );
+    number(Ok(()))
 }
 
 // Ends the input of a trace: a last line that lacks its 0a is answered if it has at least one character, nothing else. Where the buffer has fewer than three
@@ -85,13 +85,17 @@ pub extern "C" fn dikothelm_image_finish(
         actions.new owners.new progress.new out.new }
 {
     if !is_playable(actions, owners, progress) {
-        return UNSOUND;
+        return number(Err(Refusal::Unsound));
     }
     let player = player_of(actions, owners, progress);
     let fed = player.finish(out);
-    let after = fed.player;
-    let bench = after.bench;
-    image::store(bench, actions, owners);
-    put_progress(progress, after.count, after.value, fed.used, fed.written);
-    ACCEPTED
+    image::store(fed.player.bench, actions, owners);
+    put_progress(
+        progress,
+        fed.player.count,
+        fed.player.value,
+        fed.used,
+        fed.written,
+    );
+    number(Ok(()))
 }

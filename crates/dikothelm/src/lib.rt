@@ -15,8 +15,8 @@ ghost use Rattle.dikothelm.specs.Calls.{Replaced, sound_answer, SavedAs, SizeTol
 
 use desk::play_words;
 use image;
-use marks::answers::{ACCEPTED, UNSOUND};
-use marks::codes::{ABORT, COMMIT, OPEN_SUB, OPEN_TOP, QUIET, READ, WRITE};
+use marks::answers::{Refusal, number};
+use marks::requests::Request;
 use saved::in_place::{image_text_size, load_image, save_image};
 
 // Makes the image that of an empty bench.
@@ -25,10 +25,10 @@ pub extern "C" fn dikothelm_image_empty(actions: &mut [u8], owners: &mut [u64]) 
     ensures { Replaced 0 empty_record actions.old owners.old result actions.new owners.new }
 {
     if !image::is_image(actions, owners) {
-        return UNSOUND;
+        return number(Err(Refusal::Unsound));
     }
     image::clear(actions, owners);
-    ACCEPTED
+    number(Ok(()))
 }
 
 // Whether the image is that of a sound bench: 0, else 7.
@@ -36,10 +36,10 @@ pub extern "C" fn dikothelm_image_empty(actions: &mut [u8], owners: &mut [u64]) 
 pub extern "C" fn dikothelm_image_sound(actions: &[u8], owners: &[u64]) -> u8
     ensures { result ≡ sound_answer actions.now owners.now }
 {
-    if image::is_sound(actions, owners) {
-        return ACCEPTED;
+    if !image::is_sound(actions, owners) {
+        return number(Err(Refusal::Unsound));
     }
-    UNSOUND
+    number(Ok(()))
 }
 
 // Makes n a running top action.
@@ -47,7 +47,7 @@ pub extern "C" fn dikothelm_image_sound(actions: &[u8], owners: &[u64]) -> u8
 pub extern "C" fn dikothelm_image_open_top(actions: &mut [u8], owners: &mut [u64], n: u32) -> u8
     ensures { Requested (some (open_top n)) actions.old owners.old result actions.new owners.new }
 {
-    image::request(actions, owners, OPEN_TOP, n, 0)
+    number(image::request(actions, owners, Some(Request::OpenTop(n))))
 }
 
 // Makes n a running action with parent p.
@@ -60,7 +60,7 @@ pub extern "C" fn dikothelm_image_open_sub(
 ) -> u8
     ensures { Requested (some (open_sub n p)) actions.old owners.old result actions.new owners.new }
 {
-    image::request(actions, owners, OPEN_SUB, n, p)
+    number(image::request(actions, owners, Some(Request::OpenSub(n, p))))
 }
 
 // Adds a to the read set of instrument i.
@@ -68,7 +68,7 @@ pub extern "C" fn dikothelm_image_open_sub(
 pub extern "C" fn dikothelm_image_read(actions: &mut [u8], owners: &mut [u64], a: u32, i: u32) -> u8
     ensures { Requested (some (read a i)) actions.old owners.old result actions.new owners.new }
 {
-    image::request(actions, owners, READ, a, i)
+    number(image::request(actions, owners, Some(Request::Read(a, i))))
 }
 
 // Adds a to the write set of instrument i.
@@ -81,7 +81,7 @@ pub extern "C" fn dikothelm_image_write(
 ) -> u8
     ensures { Requested (some (write a i)) actions.old owners.old result actions.new owners.new }
 {
-    image::request(actions, owners, WRITE, a, i)
+    number(image::request(actions, owners, Some(Request::Write(a, i))))
 }
 
 // A sub becomes committed and no owner set changes; a top and all its descendants become free and leave all sets.
@@ -89,7 +89,7 @@ pub extern "C" fn dikothelm_image_write(
 pub extern "C" fn dikothelm_image_commit(actions: &mut [u8], owners: &mut [u64], a: u32) -> u8
     ensures { Requested (some (commit a)) actions.old owners.old result actions.new owners.new }
 {
-    image::request(actions, owners, COMMIT, a, 0)
+    number(image::request(actions, owners, Some(Request::Commit(a))))
 }
 
 // a and all its descendants, running or committed, drain under a where one of them stands in a set, and else become free. No set changes.
@@ -97,7 +97,7 @@ pub extern "C" fn dikothelm_image_commit(actions: &mut [u8], owners: &mut [u64],
 pub extern "C" fn dikothelm_image_abort(actions: &mut [u8], owners: &mut [u64], a: u32) -> u8
     ensures { Requested (some (abort a)) actions.old owners.old result actions.new owners.new }
 {
-    image::request(actions, owners, ABORT, a, 0)
+    number(image::request(actions, owners, Some(Request::Abort(a))))
 }
 
 // Instrument i is quiet for the aborted action a: all numbers that drain under a leave its sets, and become free when none of them is left in any set.
@@ -110,7 +110,7 @@ pub extern "C" fn dikothelm_image_quiet(
 ) -> u8
     ensures { Requested (some (quiet a i)) actions.old owners.old result actions.new owners.new }
 {
-    image::request(actions, owners, QUIET, a, i)
+    number(image::request(actions, owners, Some(Request::Quiet(a, i))))
 }
 
 // Plays a list of at most 32 requests, four words a record: kind, two numbers, and the place for the answer.
@@ -122,7 +122,7 @@ pub extern "C" fn dikothelm_image_list(
 ) -> u8
     ensures { ListPlayed actions.old owners.old words.old result actions.new owners.new words.new }
 {
-    play_words(actions, owners, words)
+    number(play_words(actions, owners, words))
 }
 
 // The library's version: major × 65536 + minor × 256 + patch.
@@ -167,5 +167,5 @@ pub extern "C" fn dikothelm_image_save<'a>(
 pub extern "C" fn dikothelm_image_load(actions: &mut [u8], owners: &mut [u64], text: &[u8]) -> u8
     ensures { Replaced (load_of text.now).answer (load_of text.now).bench actions.old owners.old result actions.new owners.new }
 {
-    load_image(actions, owners, text)
+    number(load_image(actions, owners, text))
 }

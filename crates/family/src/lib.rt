@@ -10,16 +10,17 @@ ghost use Rattle.views.specs.Families.{adopted};
 ghost use Rattle.views.specs.Reach.{descends_known, GatheredTo};
 ghost use Rattle.tables.specs.Reach.{Sorted, Met};
 
-use marks::bytes::wide;
 use soundness::{parents_lower, upper_child};
 use tree::children::has_child;
+use tree::named;
 
-// 1 where the number that a parent's byte names is in the set, else 0. Without a branch, since nobody can guess whose child comes next.
+// 1 where the number that a parent's byte names is in the set, else 0. A bit and no flag: it is shifted to its place without a branch, since nobody
+// can guess whose child comes next.
 fn parent_in(set: u64, up: u8) -> u64
     requires { up ≤ 64 }
     ensures { result ≡ cond (parent_in set up) 1 0 }
 {
-    let ahead = wide(up) + 63;
+    let ahead = usize::from(up) + 63;
     (set >> (ahead % 64)) & ((ahead / 64) as u64)
 }
 
@@ -31,7 +32,7 @@ fn adopting(set: u64, k: usize, up: u8) -> u64
     set | (parent_in(set, up) << (k % 64))
 }
 
-// The set with the children among 32 numbers, and with the children that those bring in on the way.
+// The set with the children among 32 numbers, and with the children that those bring in on the way. The numbers are counted, since each is shifted to its place in the set.
 fn adopting_half(parents: &[u8; 64], set: u64, from: usize) -> u64
     requires { (from ≤ 32) × (all 64 (λ k. leb (get_or parents.now k 0) k) ≡ true) }
     ensures { (a : ℕ) → GatheredTo parents.now a set from → GatheredTo parents.now a result (from + 32) }
@@ -55,7 +56,8 @@ fn in_one_pass(parents: &[u8; 64], a: usize) -> u64
     lower
 }
 
-// The numbers met going up from k, until one is inside, is outside, has no parent or was met before; joined to those outside.
+// The numbers met going up from k, until one is inside, is outside, has no parent or was met before; joined to those outside. Each number is the parent of the last,
+// so there is no list to go through.
 fn way_up(parents: &[u8; 64], inside: u64, outside: u64, k: usize) -> u64
     requires { k < 64 }
     ensures { (hit : ℕ → Bool) → Sorted hit (known_up parents.now) inside outside →
@@ -68,16 +70,16 @@ fn way_up(parents: &[u8; 64], inside: u64, outside: u64, k: usize) -> u64
         if sets::member(inside, x) {
             return met;
         }
-        let up = wide(parents[x]);
-        if (up == 0) | (64 < up) {
+        let Some(up) = named(parents[x]) else {
             return met;
-        }
-        x = up - 1;
+        };
+        x = up;
     }
     met
 }
 
-// The family of a by climbs: what a climb meets is inside or outside from then on, so that no number is climbed from twice.
+// The family of a by climbs: what a climb meets is inside or outside from then on, so that no number is climbed from
+// twice. More than the least leaves `rest` at each turn, so these are not the members of one set, taken one after the other.
 fn by_climbs(parents: &[u8; 64], a: usize) -> u64
     requires { a < 64 }
     ensures { GatheredTo parents.now a result 64 }

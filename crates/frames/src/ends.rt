@@ -1,114 +1,86 @@
 // Where lines end: a whole line that lies in the input is read at once, any other goes byte by byte.
 ghost use Rattle.std.specs.Prelude.{◌≡◌, ◌+◌, ◌≤◌, ◌<◌, length};
-ghost use Rattle.frames.specs.Ends.{no_end, pair_by, line_at, whole_line, begun_end, next_end};
+ghost use Rattle.frames.specs.Ends.{pair_by, line_at, whole_line, begun_end, next_end};
 
-use crate::{Frame, frame_of, long_frame, no_frame, short_frame};
-use marks::bytes::wide;
+use crate::{Begun, long_frame, short_frame};
+use marks::requests::Request;
 
-// The end of a line: its frame, and how many bytes of the input it takes; no bytes where no line ends.
-#[derive(Clone, Copy)]
+// The end of a line: what the line asks, if anything, and how many bytes of the input it takes.
+#[derive(Clone, Copy, Debug, PartialEq, Eq)]
 pub struct End {
-    pub frame: Frame,
+    pub asked: Option<Request>,
     pub size: usize,
 }
 
-fn no_end() -> End
-    ensures { result ≡ no_end }
-{
-    End {
-        frame: no_frame(),
-        size: 0,
-    }
-}
-
-// What two characters write, and 256 where one of them is no digit. Values are looked up: digits come at random, and a processor guesses no branch on them.
-fn pair(values: &[u8; 256], high: u8, low: u8) -> u32
+// What two characters write, where both are digits. Values are looked up: digits come at random, and a processor guesses no branch on them.
+fn pair(values: &[u8; 256], high: u8, low: u8) -> Option<u32>
     ensures { result ≡ pair_by values.now high low }
 {
-    let h = values[wide(high)];
+    let h = values[usize::from(high)];
     if 16 <= h {
-        return 256;
+        return None;
     }
-    let l = values[wide(low)];
+    let l = values[usize::from(low)];
     if 16 <= l {
-        return 256;
+        return None;
     }
-    (h as u32) * 16 + (l as u32)
+    Some(u32::from(h) * 16 + u32::from(l))
 }
 
 // A whole line of four or six digits at a place with seven bytes or more.
-fn line_at(values: &[u8; 256], input: &[u8], at: usize) -> End
+fn line_at(values: &[u8; 256], input: &[u8], at: usize) -> Option<End>
     requires { at + 7 ≤ length input.now }
     ensures { result ≡ line_at values.now input.now at }
 {
-    let code = pair(values, input[at], input[at + 1]);
-    if 256 <= code {
-        return no_end();
-    }
-    let x = pair(values, input[at + 2], input[at + 3]);
-    if 256 <= x {
-        return no_end();
-    }
+    let code = pair(values, input[at], input[at + 1])?;
+    let x = pair(values, input[at + 2], input[at + 3])?;
     if input[at + 4] == 10 {
-        return End {
-            frame: short_frame(code, x),
+        return Some(End {
+            asked: short_frame(code, x),
             size: 5,
-        };
+        });
     }
-    let y = pair(values, input[at + 4], input[at + 5]);
-    if 256 <= y {
-        return no_end();
-    }
+    let y = pair(values, input[at + 4], input[at + 5])?;
     if input[at + 6] != 10 {
-        return no_end();
+        return None;
     }
-    End {
-        frame: long_frame(code, x, y),
+    Some(End {
+        asked: long_frame(code, x, y),
         size: 7,
-    }
+    })
 }
 
 // A whole line where none has begun. Any other line, or one near the input's end, is left to the way byte by byte.
-fn whole_line(values: &[u8; 256], count: u8, value: u32, input: &[u8], at: usize) -> End
+fn whole_line(values: &[u8; 256], begun: Begun, input: &[u8], at: usize) -> Option<End>
     requires { at ≤ length input.now }
-    ensures { result ≡ whole_line values.now count value input.now at }
+    ensures { result ≡ whole_line values.now begun.count begun.value input.now at }
 {
-    if count != 0 {
-        return no_end();
-    }
-    if value != 0 {
-        return no_end();
-    }
-    if input.len() - at < 7 {
-        return no_end();
+    if begun.count != 0 || begun.value != 0 || input.len() - at < 7 {
+        return None;
     }
     line_at(values, input, at)
 }
 
 // The end of the line that has begun, where the next byte is it.
-fn begun_end(count: u8, value: u32, input: &[u8], at: usize) -> End
+fn begun_end(begun: Begun, input: &[u8], at: usize) -> Option<End>
     requires { at < length input.now }
-    ensures { result ≡ begun_end count value input.now at }
+    ensures { result ≡ begun_end begun.count begun.value input.now at }
 {
     if input[at] != 10 {
-        return no_end();
+        return None;
     }
-    End {
-        frame: frame_of(count, value),
+    Some(End {
+        asked: begun.frame(),
         size: 1,
-    }
+    })
 }
 
 // The next end of a line: of a whole line that lies here, or of the line that has begun. `values` are the values of all bytes as digits.
-pub fn next_end(values: &[u8; 256], count: u8, value: u32, input: &[u8], at: usize) -> End
-    ensures { result ≡ next_end values.now count value input.now at }
+pub fn next_end(values: &[u8; 256], begun: Begun, input: &[u8], at: usize) -> Option<End>
+    ensures { result ≡ next_end values.now begun.count begun.value input.now at }
 {
     if input.len() <= at {
-        return no_end();
+        return None;
     }
-    let whole = whole_line(values, count, value, input, at);
-    if whole.size != 0 {
-        return whole;
-    }
-    begun_end(count, value, input, at)
+    whole_line(values, begun, input, at).or_else(|| begun_end(begun, input, at))
 }

@@ -1,103 +1,70 @@
-// What a line that has begun writes: its digits one by one, and the frame that they make.
+// What a line that has begun asks: its digits one by one, and the request that they make.
 #![tactic(auto)]
 
 pub mod ends;
 
 ghost use Rattle.std.specs.Prelude.{◌≡◌};
 ghost use Rattle.lines.specs.Feeding.{count_after, value_after};
-ghost use Rattle.frames.specs.Frames.{among, no_frame, short_of, long_of, held_frame};
+ghost use Rattle.frames.specs.Frames.{short_of, long_of, held_frame};
 
-use marks::codes::{ABORT, COMMIT, OPEN_SUB, OPEN_TOP, QUIET, READ, WRITE};
-
-// A frame's code, 0 where there is none, and its two numbers.
-#[derive(Clone, Copy)]
-pub struct Frame {
-    pub code: u8,
-    pub x: u32,
-    pub y: u32,
-}
-
-pub(crate) fn no_frame() -> Frame
-    ensures { result ≡ no_frame }
-{
-    Frame {
-        code: 0,
-        x: 0,
-        y: 0,
-    }
-}
-
-// The code, where it is one of the four, and else 0; a 0 among the four is spare.
-fn among(code: u32, first: u8, second: u8, third: u8, fourth: u8) -> u8
-    ensures { result ≡ among code first second third fourth }
-{
-    if code == first as u32 {
-        return first;
-    }
-    if code == second as u32 {
-        return second;
-    }
-    if code == third as u32 {
-        return third;
-    }
-    if code == fourth as u32 {
-        return fourth;
-    }
-    0
-}
+use marks::codes;
+use marks::requests::Request;
 
 // The frame of four digits.
-pub(crate) fn short_frame(code: u32, x: u32) -> Frame
+pub(crate) fn short_frame(code: u32, x: u32) -> Option<Request>
     ensures { result ≡ short_of code x }
 {
-    Frame {
-        code: among(code, OPEN_TOP, COMMIT, ABORT, 0),
-        x: x,
-        y: 0,
+    match u8::try_from(code) {
+        Ok(codes::OPEN_TOP) => Some(Request::OpenTop(x)),
+        Ok(codes::COMMIT) => Some(Request::Commit(x)),
+        Ok(codes::ABORT) => Some(Request::Abort(x)),
+        _ => None,
     }
 }
 
 // The frame of six digits.
-pub(crate) fn long_frame(code: u32, x: u32, y: u32) -> Frame
+pub(crate) fn long_frame(code: u32, x: u32, y: u32) -> Option<Request>
     ensures { result ≡ long_of code x y }
 {
-    Frame {
-        code: among(code, OPEN_SUB, READ, WRITE, QUIET),
-        x: x,
-        y: y,
+    match u8::try_from(code) {
+        Ok(codes::OPEN_SUB) => Some(Request::OpenSub(x, y)),
+        Ok(codes::READ) => Some(Request::Read(x, y)),
+        Ok(codes::WRITE) => Some(Request::Write(x, y)),
+        Ok(codes::QUIET) => Some(Request::Quiet(x, y)),
+        _ => None,
     }
 }
 
-// The frame of a line as it stands.
-pub(crate) fn frame_of(count: u8, value: u32) -> Frame
-    ensures { result ≡ held_frame count value }
-{
-    if count == 4 {
-        return short_frame(value / 256, value % 256);
-    }
-    if count == 6 {
-        return long_frame(value / 65536, value / 256 % 256, value % 256);
-    }
-    no_frame()
+// A line that has begun: how many digits it has, and what they write. A count of 7 says that no request can come of it any more.
+#[derive(Clone, Copy, Debug, PartialEq, Eq)]
+pub struct Begun {
+    pub count: u8,
+    pub value: u32,
 }
 
-// How many digits the line has with one more character.
-pub fn count_after(count: u8, c: u8) -> u8
-    ensures { result ≡ count_after count c }
-{
-    if count < 6 && digits::value(c) < 16 {
-        return count + 1;
+impl Begun {
+    // The frame of the line as it stands.
+    pub(crate) fn frame(self) -> Option<Request>
+        ensures { result ≡ held_frame self.count self.value }
+    {
+        let value = self.value;
+        match self.count {
+            4 => short_frame(value / 256, value % 256),
+            6 => long_frame(value / 65536, value / 256 % 256, value % 256),
+            _ => None,
+        }
     }
-    7
-}
 
-// What they write.
-pub fn value_after(count: u8, value: u32, c: u8) -> u32
-    ensures { result ≡ value_after count value c }
-{
-    let d = digits::value(c);
-    if count < 6 && d < 16 {
-        return value % 16777216 * 16 + (d as u32);
+    // The line with one more character.
+    pub fn after(self, c: u8) -> Begun
+        ensures { (result.count ≡ count_after self.count c) × (result.value ≡ value_after self.count self.value c) }
+    {
+        match digits::value(c) {
+            Some(digit) if self.count < 6 => Begun {
+                count: self.count + 1,
+                value: self.value % 16777216 * 16 + u32::from(digit),
+            },
+            _ => Begun { count: 7, value: 0 },
+        }
     }
-    0
 }

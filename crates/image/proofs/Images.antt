@@ -1,15 +1,18 @@
 -- A bench's image: its lengths, the parents and states read out of it, the image that they are put into, and what a request leaves. Assumes nothing.
-use mathlib.Core.Path.{◌≡◌, refl, sym, ◌∙◌, ap}
+use Rattle.std.specs.Prelude as code
+use mathlib.Core.Path.{◌≡◌, refl, sym, ◌∙◌}
 use mathlib.Core.Bool.{Bool, true, false, not, false≢true}
 use mathlib.Core.List.{List, ◌++◌}
 use mathlib.Core.Option.{Option}
 use Prim.Native.Nat.{ℕ, ◌+◌, ◌≤◌}
 use native.Mathlib.Omega.{arith}
-use borrow.Author.Tests.{eq-eqb, eqb-true, eqb-false, ne_eqb, ltb-true, ltb-false, not-true, not-false}
+use borrow.Author.Tests.{eq-eqb, eqb-true, eqb-false, ltb-true, ltb-false, not-true, not-false}
 use lib.Dec.{eqb, ltb}
-use lib.ListN.{length, get_or, take, drop, replicate, length-append, length-drop}
+use lib.ListN.{length, get_or, take, drop, length-append, length-drop}
 use lib.Seq.{take_all, take_at, drop_at, length-take-le}
 use Rattle.sets.specs.Sets.{member}
+use Rattle.copies.specs.Copies.{words_from}
+use Rattle.copies.proofs.CopyLaws.{all_taken}
 use Rattle.rules.specs.Tests.{any}
 use Rattle.rules.specs.Bench as rules
 use Rattle.rules.specs.Requests.{Request}
@@ -23,10 +26,12 @@ use Rattle.views.specs.Owners.{Standing}
 use Rattle.views.specs.Soundness.{sound_with}
 use Rattle.views.proofs.Words.{sound_with_lem, arrays_long}
 use Rattle.rules.specs.Frames.{framed}
+use Rattle.marks.specs.declared.requests.Request as marks
+use Rattle.marks.specs.Requests.{meant_by, code_of, first_of, second_of}
 use Rattle.steps.specs.Arrays.{Arrays, lent, view_of, read_sets, write_sets, SoundLists, SteppedTo}
 use Rattle.steps.specs.Steps as steps
 use Rattle.steps.proofs.Standing.{standing_members, standing_halves}
-use Rattle.steps.proofs.RequestLaws.{request_steps}
+use Rattle.steps.proofs.RequestLaws.{framed_meant, asked_steps}
 use Rattle.tables.specs.Steps.{Long}
 use Rattle.tables.proofs.Steps.{answer_unsound, step_refused}
 use Rattle.rules.proofs.Frames.{request_of, unframed}
@@ -51,52 +56,46 @@ image_long actions owners image =
 pub second_half : (n : ℕ) (l : List ℕ) → length l ≡ n + n → take n (drop n l) ≡ drop n l
 second_half n l long = take_all n (drop n l) (rw (length-drop n l) (omega arith))
 
+-- the two halves that are taken out of a list
+pub first_taken : (n : ℕ) (l : List ℕ) → length l ≡ n + n → words_from n 0 l 0 ≡ take n l
+first_taken n l long = all_taken n 0 l 0 (omega arith)
+
+pub second_taken : (n : ℕ) (l : List ℕ) → length l ≡ n + n → words_from n 0 l n ≡ drop n l
+second_taken n l long = all_taken n 0 l n (omega arith) ∙ second_half n l long
+
 -- an image that four arrays were put into, read as a bench
 pub put_view : (parents states reads writes : List ℕ) → length parents ≡ 64 → length reads ≡ 128 → image_view (parents ++ states) (reads ++ writes) ≡ view parents states reads writes
 put_view parents states reads writes lp lr =
     rw (take_at parents states 64 lp, drop_at parents states 64 lp, take_at reads writes 128 lr, drop_at reads writes 128 lr)
 
--- the record of slices that are no image, and of an image
-pub no_record : (actions owners : List ℕ) → is_image actions owners ≡ false → ◌≡◌ {A = Bench} (record { parents = replicate 64 0; states = replicate 64 0; reads = replicate 128 0; writes = replicate 128 0 }) (record_of actions owners)
-no_record actions owners other = rw other
-
-pub image_record : (actions owners parents states reads writes : List ℕ) → is_image actions owners ≡ true → parents ≡ take 64 actions → states ≡ take 64 (drop 64 actions) → reads ≡ take 128 owners → writes ≡ take 128 (drop 128 owners) → ◌≡◌ {A = Bench} (record { parents = parents; states = states; reads = reads; writes = writes }) (record_of actions owners)
+-- the record of an image
+pub image_record : (actions owners parents states reads writes : List ℕ) → is_image actions owners ≡ true → parents ≡ words_from 64 0 actions 0 → states ≡ words_from 64 0 actions 64 → reads ≡ words_from 128 0 owners 0 → writes ≡ words_from 128 0 owners 128 → ◌≡◌ {A = Bench} (record { parents = parents; states = states; reads = reads; writes = writes }) (record_of actions owners)
 image_record actions owners parents states reads writes image p s r w =
     let long = image_long actions owners image in
-    rw (image, p, s, r, w, second_half 64 actions long.0, second_half 128 owners long.1)
+    rw (image, p, s, r, w, first_taken 64 actions long.0, second_taken 64 actions long.0, first_taken 128 owners long.1, second_taken 128 owners long.1)
 
--- slices that are no image aren't sound
-pub no_sound_image : (actions owners : List ℕ) → is_image actions owners ≡ false → false ≡ sound_image actions owners
-no_sound_image actions owners other = rw other
+-- the parents and states of an image's bytes
+pub image_actions : (actions parents states : List ℕ) → length actions ≡ 128 → parents ≡ words_from 64 0 actions 0 → states ≡ words_from 64 0 actions 64 → ◌≡◌ {A = Actions} (record { parents = parents; states = states }) (actions_in actions)
+image_actions actions parents states long p s = rw (eq-eqb (length actions) 128 long, p, s, first_taken 64 actions long, second_taken 64 actions long)
 
--- parents and states of bytes that are no image's, and of an image's
-pub no_actions : (actions : List ℕ) → (length actions ≡ 128 → ⊥) → ◌≡◌ {A = Actions} (record { parents = replicate 64 0; states = replicate 64 0 }) (actions_in actions)
-no_actions actions other = rw (ne_eqb (length actions) 128 other)
-
-pub image_actions : (actions parents states : List ℕ) → length actions ≡ 128 → parents ≡ take 64 actions → states ≡ take 64 (drop 64 actions) → ◌≡◌ {A = Actions} (record { parents = parents; states = states }) (actions_in actions)
-image_actions actions parents states long p s = rw (eq-eqb (length actions) 128 long, p, s, second_half 64 actions long)
-
--- a record that is stored, or not
-pub image_stored : (b : Bench) (actions owners actions' owners' : List ℕ) → is_image actions owners ≡ true → actions' ≡ b.parents ++ b.states → owners' ≡ b.reads ++ b.writes → StoredAs b actions owners actions' owners'
-image_stored b actions owners actions' owners' image ea eo = record { bytes = rw image ea; words = rw image eo }
-
+-- slices that are no image stay as they are
 pub none_stored : (b : Bench) (actions owners : List ℕ) → is_image actions owners ≡ false → StoredAs b actions owners actions owners
 none_stored b actions owners other = record { bytes = rw other; words = rw other }
 
 -- ---- a request
 
-pub none_requested : (q : Option Request) (actions owners : List ℕ) → is_image actions owners ≡ false → Requested q actions owners 7 actions owners
-none_requested q actions owners other =
-    record { bytes_long = refl; words_long = refl; outcome = λ image. absurd (false≢true (sym other ∙ image)); no_image = λ no. (refl, refl, refl) }
-
 -- what a bench that isn't sound answers
-unsound_answered : (b : rules.Bench) (code x y : ℕ) → sound read_write b ≡ false →
+framed_unsound : (b : rules.Bench) (code x y : ℕ) → sound read_write b ≡ false →
     ◌≡◌ {A = Outcome} (record { answer = unsound_answer code; next = b }) (answered read_write b (framed code x y))
-unsound_answered b code x y broken =
+framed_unsound b code x y broken =
     by_bool (eqb code 0) (λ t. rw (t, eqb-true code 0 t))
     (λ f. by_bool (ltb 7 code) (λ t. rw (f, t, unframed code x y (ltb-true 7 code t)))
     (λ g. let found = request_of code x y (eqb-false code 0 f) (ltb-false 7 code g) in
     rw (f, g, found.1) (step_refused read_write b found.0 7 (answer_unsound read_write b found.0 false (sym broken) refl) (λ z. omega arith))))
+
+pub unsound_answered : (b : rules.Bench) (asked : code.Option marks.Request) → sound read_write b ≡ false →
+    ◌≡◌ {A = Outcome} (record { answer = unsound_answer (code_of asked); next = b }) (answered read_write b (meant_by asked))
+unsound_answered b asked broken = rw (← framed_meant asked) (framed_unsound b (code_of asked) (first_of asked) (second_of asked) broken)
 
 module _ (actions owners : List ℕ) (image : is_image actions owners ≡ true) where
   -- the room that each half of an image has
@@ -117,6 +116,15 @@ pub record ReadOut (actions owners parents states : List ℕ) : Type 0 where
   pub image : is_image actions owners ≡ true
   pub is_parents : parents ≡ take 64 actions
   pub is_states : states ≡ take 64 (drop 64 actions)
+
+-- So are the arrays of an image that is lent in two halves.
+pub halves_read : (parents states owners : List ℕ) → length parents ≡ 64 → length states ≡ 64 → length owners ≡ 256 → ReadOut (parents ++ states) owners parents states
+halves_read parents states owners p s o =
+    record {
+      image = rw (eq-eqb (length (parents ++ states)) 128 (rw (length-append parents states) (omega arith)), eq-eqb (length owners) 256 o);
+      is_parents = sym (take_at parents states 64 p);
+      is_states = rw (drop_at parents states 64 p) (sym (take_all 64 states (omega arith)));
+    }
 
 module _ {actions owners parents states : List ℕ} (out : ReadOut actions owners parents states) where
   abbrev before : Arrays
@@ -155,27 +163,19 @@ module _ {actions owners parents states : List ℕ} (out : ReadOut actions owner
   unchanged q answer e =
       record { bytes_long = refl; words_long = refl; outcome = λ yes. e; no_image = λ no. absurd (false≢true (sym no ∙ out.image)) }
 
-  pub unsound_requested : (ok : Bool) (code x y answer : ℕ) → ok ≡ sound read_write (view_of before) → not ok ≡ true → answer ≡ unsound_answer code → Requested (framed code x y) actions owners answer actions owners
-  unsound_requested ok code x y answer e broken is =
-      rw is
-      (unchanged (framed code x y) (unsound_answer code)
-      (unsound_answered (image_view actions owners) code x y (rw (← read_view) (sym e ∙ not-true ok broken))))
+  pub unsound_requested : (ok : Bool) (asked : code.Option marks.Request) (answer : ℕ) → ok ≡ sound read_write (view_of before) → not ok ≡ true → answer ≡ unsound_answer (code_of asked) →
+      Requested (meant_by asked) actions owners answer actions owners
+  unsound_requested ok asked answer e broken is =
+      rw is (unchanged (meant_by asked) (unsound_answer (code_of asked)) (unsound_answered (image_view actions owners) asked (rw (← read_view) (sym e ∙ not-true ok broken))))
 
-  module _ (code x y : ℕ) {answer : ℕ} {parents' states' owners' : List ℕ} (took : steps.Requested code x y before answer (lent parents' states' owners')) (sound_before : SoundLists before) where
-    stepped : SteppedTo (framed code x y) before answer (lent parents' states' owners')
-    stepped = request_steps sound_before code x y took
+  module _ (asked : code.Option marks.Request) {answer : ℕ} {parents' states' owners' : List ℕ} (took : steps.Requested (code_of asked) (first_of asked) (second_of asked) before answer (lent parents' states' owners'))
+      (sound_before : SoundLists before) where
+    stepped : SteppedTo (meant_by asked) before answer (lent parents' states' owners')
+    stepped = asked_steps sound_before asked took
 
-    -- what is answered other than 0 changes nothing
-    pub refused_requested : (answer ≡ 0 → ⊥) → Requested (framed code x y) actions owners answer actions owners'
-    refused_requested nonzero =
-        let same : lent parents' states' owners' ≡ before = took.left ∙ rw (ne_eqb answer 0 nonzero) in
-        let kept : owners' ≡ owners = ap (λ b. b.owners) same in
-        let e = ap (λ b. record { answer = answer; next = view_of b }) (sym same) ∙ stepped.stepped.outcome in
-        rw kept (unchanged (framed code x y) answer (rw (← read_view) e))
-
-    -- an accepted request, and the image after parents and states were put back
-    pub accepted_requested : {actions' : List ℕ} → actions' ≡ parents' ++ states' → Requested (framed code x y) actions owners answer actions' owners'
-    accepted_requested ea =
+    -- what a request leaves of the image, accepted or not
+    pub stepped_requested : {actions' : List ℕ} → actions' ≡ parents' ++ states' → Requested (meant_by asked) actions owners answer actions' owners'
+    stepped_requested ea =
         let after = stepped.stepped.table in
         let words = stepped.owners_long in
         let l = long in
@@ -187,7 +187,3 @@ module _ {actions owners parents states : List ℕ} (out : ReadOut actions owner
               stepped.stepped.outcome;
           no_image = λ no. absurd (false≢true (sym no ∙ out.image));
         }
-
-    -- how long the arrays are that a request leaves
-    pub after_long : (length parents' ≡ 64) × (length states' ≡ 64)
-    after_long = (stepped.stepped.table.long.parents_long, stepped.stepped.table.long.states_long)

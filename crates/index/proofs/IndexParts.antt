@@ -1,15 +1,14 @@
--- The first three parts of the index, which tell of the tree: what is read from one, and what a store leaves of all three. Assumes nothing.
+-- The first three parts of the index, which tell of the tree: what is read from one, and what a store leaves of all three; and the words of parts as code has them. Assumes nothing.
 use mathlib.Core.Path.{◌≡◌, refl, sym, ◌∙◌, ap}
-use mathlib.Core.List.{List, [], ◌∷◌}
-use Prim.Native.Nat.{ℕ, suc, ◌+◌, ◌-◌, ◌≤◌, ◌<◌}
+use mathlib.Core.List.{List, ◌∷◌, ◌++◌}
+use Prim.Native.Nat.{ℕ, suc, ◌+◌, ◌-◌, ◌<◌}
 use native.Mathlib.Omega.{arith}
-use lib.ListN.{length, get_or, set, take, drop, length-set}
-use lib.Seq.{sets, length-sets, take-set-le, take-set-lt, drop-set-lt, drop-set-add, get_or-take, get_or-drop, get_or-set_same, get_or-set_other}
+use lib.ListN.{length, get_or, set, take, drop, length-set, length-append}
+use lib.Seq.{take-append_seam, drop-append_seam, take-set-le, take-set-lt, drop-set-lt, drop-set-add, get_or-take, get_or-drop, get_or-set_same, get_or-set_other}
+use Rattle.std.proofs.lemmas.List.{get_or_append_left, get_or-append_right, set-append_left, set-append_right}
 use Rattle.rules.specs.Bench as rules
 use Rattle.views.specs.Index.{Indexed}
-use Rattle.copies.specs.Copies.{words_put}
-use Rattle.copies.proofs.CopyLaws.{put_twice, first_half, second_half}
-use Rattle.index.specs.Tables.{child_sets, line_sets, running_set, IndexOf}
+use Rattle.index.specs.Tables.{words_of, child_sets, line_sets, running_set, IndexOf}
 
 -- These are the parts of an index.
 pub record Parts (index children lines : List ℕ) (running : ℕ) : Type 0 where
@@ -77,28 +76,57 @@ module _ {index children lines : List ℕ} {running : ℕ} (h : Parts index chil
       there : n ≡ 64 + (n - 64)
       there = omega arith
 
--- ---- made anew
+-- ---- the words of parts
 
--- children and lines, put into words that were there before
-pub parts_put : (words children lines : List ℕ) → length words ≡ 257 → length children ≡ 64 → length lines ≡ 64 →
-    Parts (words_put (words_put words 0 children) 64 lines) children lines (running_set (words_put (words_put words 0 children) 64 lines))
-parts_put words children lines long children_long lines_long =
-    rw (put_twice 64 words children lines (omega arith) children_long lines_long)
-    (record {
-      long = length-sets (sets words 0 children) 64 lines ∙ length-sets words 0 children ∙ long;
-      of_children = first_half 64 words children lines (omega arith) children_long lines_long;
-      of_lines = second_half 64 words children lines (omega arith) children_long lines_long;
-      of_running = refl;
-    })
+module _ (children lines : List ℕ) (running : ℕ) (groups places : List ℕ) (children_long : length children ≡ 64) (lines_long : length lines ≡ 64) (groups_long : length groups ≡ 64) where
+  -- behind the lines, and behind the children
+  abbrev last_of : List ℕ
+  last_of = running ∷ (groups ++ places)
 
--- what stands behind words that are put stays
-sets_behind : (from words : List ℕ) (at place : ℕ) → at + length from ≤ place → get_or (sets words at from) place 0 ≡ get_or words place 0
-sets_behind [] words at place above = refl
-sets_behind (v ∷ from) words at place above =
-    sets_behind from (set words at v) (suc at) place (omega arith) ∙ get_or-set_other words at place v 0 (λ e. absurd (omega arith))
+  abbrev later : List ℕ
+  later = lines ++ last_of
 
-pub parts_behind : (words children lines : List ℕ) → length words ≡ 257 → length children ≡ 64 → length lines ≡ 64 → (place : ℕ) → 128 ≤ place →
-    get_or (words_put (words_put words 0 children) 64 lines) place 0 ≡ get_or words place 0
-parts_behind words children lines long children_long lines_long place above =
-    rw (put_twice 64 words children lines (omega arith) children_long lines_long)
-    (sets_behind lines (sets words 0 children) 64 place (omega arith) ∙ sets_behind children words 0 place (omega arith))
+  abbrev words : List ℕ
+  words = words_of children lines running groups places
+
+  read_behind : (k n : ℕ) → n ≡ 128 + k → get_or words n 0 ≡ get_or last_of k 0
+  read_behind k n e =
+      get_or-append_right children later 64 n 0 children_long (omega arith) ∙ get_or-append_right lines last_of 64 (n - 64) 0 lines_long (omega arith)
+      ∙ ap (λ (i : ℕ). get_or last_of i 0) (omega arith)
+
+  pub group_read : (k : ℕ) → k < 64 → get_or words (129 + k) 0 ≡ get_or groups k 0
+  group_read k known = read_behind (suc k) (129 + k) (omega arith) ∙ get_or_append_left groups places 0 k (rw groups_long known)
+
+  pub place_read : (k : ℕ) → get_or words (193 + k) 0 ≡ get_or places k 0
+  place_read k =
+      read_behind (suc (64 + k)) (193 + k) (omega arith) ∙ get_or-append_right groups places 64 (64 + k) 0 groups_long (omega arith)
+      ∙ ap (λ (i : ℕ). get_or places i 0) (omega arith)
+
+  pub parts_of : length places ≡ 64 → Parts words children lines running
+  parts_of places_long =
+      record {
+        long = omega (arith, length-append children later, length-append lines last_of, length-append groups places);
+        of_children = rw (← children_long) (take-append_seam children later);
+        of_lines = ap (take 64) front ∙ rw (← lines_long) (take-append_seam lines last_of);
+        of_running = read_behind 0 128 (omega arith);
+      }
+    where
+      front : drop 64 words ≡ later
+      front = rw (← children_long) (drop-append_seam children later)
+
+  -- ---- stores behind the lines
+
+  put_behind : (k n v : ℕ) → n ≡ 128 + k → set words n v ≡ children ++ (lines ++ set last_of k v)
+  put_behind k n v e =
+      set-append_right children later 64 n v children_long (omega arith)
+      ∙ ap (λ (l : List ℕ). children ++ l)
+      (set-append_right lines last_of 64 (n - 64) v lines_long (omega arith) ∙ ap (λ (i : ℕ). lines ++ set last_of i v) (omega arith))
+
+  pub group_put : (k v : ℕ) → k < 64 → set words (129 + k) v ≡ words_of children lines running (set groups k v) places
+  group_put k v known =
+      put_behind (suc k) (129 + k) v (omega arith) ∙ ap (λ (l : List ℕ). children ++ (lines ++ (running ∷ l))) (set-append_left groups places k v (rw groups_long known))
+
+  pub place_put : (k v : ℕ) → set words (193 + k) v ≡ words_of children lines running groups (set places k v)
+  place_put k v =
+      put_behind (suc (64 + k)) (193 + k) v (omega arith)
+      ∙ ap (λ (l : List ℕ). children ++ (lines ++ (running ∷ l))) (set-append_right groups places 64 (64 + k) v groups_long (omega arith) ∙ ap (λ (i : ℕ). groups ++ set places i v) (omega arith))

@@ -4,7 +4,7 @@
 -- StandLaws: numbers that stand at some places only.
 -- PlacedLaws: places and groups after an ask, an open and the commit of a sub, and stores elsewhere.
 -- PlacedEnds: places and groups after the end of a family and after a quiet.
--- IndexParts: the parts of the index that tell of the tree, and what a store leaves of them.
+-- IndexParts: the parts of the index that tell of the tree, and what a store leaves of them; and the words of parts.
 -- Making: the index as it is first made is that of a sound bench.
 -- Families: families gathered from the index.
 -- Kept: requests on any arrays and index, by their codes.

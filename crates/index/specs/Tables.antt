@@ -1,6 +1,6 @@
 -- The arrays of a bench, and the index, which is kept beside them so that no line looks through them. The index has 257 words: the children of each of the 64
 -- numbers, then each number with its ancestors, then the running numbers, all as sets; then the group of each head, and last the places of each number.
-use Rattle.std.specs.Prelude.{List, ◌≡◌, ℕ, length, get_or, take, drop}
+use Rattle.std.specs.Prelude.{List, ◌∷◌, ◌++◌, ◌≡◌, ℕ, length, get_or, take, drop}
 use Rattle.std.proofs.Math.Option.{Option}
 use Rattle.rules.specs.Bench as rules
 use Rattle.rules.specs.Requests.{Request}
@@ -10,6 +10,10 @@ use Rattle.steps.specs.Arrays.{Arrays, lent, SoundLists, SteppedTo}
 use Rattle.index.specs.Places.{Placed}
 
 -- ---- the index
+
+-- its parts, one after the other
+abbrev pub words_of : List ℕ → List ℕ → ℕ → List ℕ → List ℕ → List ℕ
+words_of children lines running groups places = children ++ (lines ++ (running ∷ (groups ++ places)))
 
 abbrev pub child_sets : List ℕ → List ℕ
 child_sets index = take 64 index

@@ -1,34 +1,37 @@
 // Commit and abort, with the families and the places that the index has.
 ghost use Rattle.std.specs.Prelude.{◌≡◌, ◌%◌};
+ghost use Rattle.marks.specs.Answers.{answer_number};
 ghost use Rattle.steps.specs.Arrays.{lent};
 ghost use Rattle.index.specs.Tables.{table};
-ghost use Rattle.index.specs.Kept.{stopped, left_parent, aborted_by, aborted_index, committed_by, EndKept};
+ghost use Rattle.index.specs.Kept.{busy_by, stopped, left_parent, aborted_by, aborted_index, committed_by, EndKept};
 
-use crate::kept_family::freed_in;
+use crate::Index;
+use crate::kept_family::{family_of, family_of_top};
 use crate::places::{leave_places, places_of, still_in};
-use crate::{GROUPS, PLACES, RUNNING};
-use marks::answers::ACCEPTED;
-use marks::bytes::wide;
-use marks::codes::ABORT;
+use marks::answers::Answer;
 use marks::states::{COMMITTED, FREE};
-use rows::{ACTIONS, end_row};
+use rows::{ACTIONS, abort_row, commit_row};
 use steps::clear::put_bytes;
 use steps::draining::aborted_byte;
 
-// Who has gone runs no more, nor does x.
-fn stop(index: &mut [u64; 257], gone: u64, x: u32)
-    ensures { index.new ≡ stopped gone (x % 64) index.old }
-{
-    index[RUNNING] = sets::difference(index[RUNNING], sets::with(gone, (x % ACTIONS) as usize));
-}
+impl Index {
+    // Who has gone runs no more, nor does x.
+    fn stop(&mut self, gone: u64, x: u32)
+        ensures { self.new ≡ stopped gone (x % 64) self.old }
+    {
+        let running = sets::difference(self.running(), sets::with(gone, (x % ACTIONS) as usize));
+        self.put_running(running);
+    }
 
-// And leaves the children of the parent of x, whose byte is `up`.
-fn leave_parent(index: &mut [u64; 257], gone: u64, x: u32, up: usize)
-    ensures { index.new ≡ left_parent gone x up index.old }
-{
-    stop(index, gone, x);
-    if (up != 0) & (up <= 64) {
-        index[up - 1] = sets::difference(index[up - 1], gone);
+    // And leaves the children of the parent of x, whose byte is `up`.
+    fn leave_parent(&mut self, gone: u64, x: u32, up: usize)
+        ensures { self.new ≡ left_parent gone x up self.old }
+    {
+        self.stop(gone, x);
+        if (up != 0) & (up <= 64) {
+            let children = sets::difference(self.children(up - 1), gone);
+            self.put_children(up - 1, children);
+        }
     }
 }
 
@@ -37,7 +40,7 @@ fn abort(
     parents: &mut [u8; 64],
     states: &mut [u8; 64],
     owners: &[u64; 256],
-    index: &mut [u64; 257],
+    index: &mut Index,
     gone: u64,
     x: u32,
 )
@@ -47,13 +50,13 @@ fn abort(
         ≡ aborted_index gone x (table parents.old states.old owners.now index.old)) }
 {
     let a = (x % ACTIONS) as usize;
-    let up = wide(parents[a]);
+    let up = usize::from(parents[a]);
     let still = still_in(owners, gone, places_of(index, gone));
     put_bytes(parents, gone, 0);
     put_bytes(states, gone, aborted_byte(still != 0, x));
-    leave_parent(index, gone, x, up);
-    index[GROUPS + a] = gone;
-    index[PLACES + a] = still;
+    index.leave_parent(gone, x, up);
+    index.put_group(a, gone);
+    index.put_places(a, still);
 }
 
 // A top's family becomes free and leaves the sets of its places; a sub becomes committed.
@@ -61,7 +64,7 @@ fn commit<'a>(
     parents: &mut [u8; 64],
     states: &mut [u8; 64],
     owners: &mut [u64; 256],
-    index: &'a [u64; 257],
+    index: &'a Index,
     gone: u64,
     x: u32,
 )
@@ -78,30 +81,40 @@ fn commit<'a>(
     leave_places(owners, gone, places_of(index, gone));
 }
 
-// Commit or abort. Who is aborted leaves the children of its parent. A commit takes nobody out of them: a top has no parent, and a sub stays, and only runs no more.
-pub(crate) fn end_indexed(
+// Commit, where `busy` says whether x has a running child. It takes nobody out of the children of x's parent: a top has no parent, and a sub stays, and only runs no more.
+pub(crate) fn commit_indexed(
     parents: &mut [u8; 64],
     states: &mut [u8; 64],
     owners: &mut [u64; 256],
-    index: &mut [u64; 257],
+    index: &mut Index,
     busy: bool,
-    code: u8,
     x: u32,
-) -> u8
-    ensures { EndKept code x «busy»
-        (table parents.old states.old owners.old index.old) result
+) -> Answer
+    ensures { EndKept 5 x «busy»
+        (table parents.old states.old owners.old index.old) (answer_number result)
         (table parents.new states.new owners.new index.new) }
 {
-    let gone = freed_in(parents, index, code, x);
-    let answer = end_row(states, busy, code, x);
-    if answer != ACCEPTED {
-        return answer;
-    }
-    if code == ABORT {
-        abort(parents, states, owners, index, gone, x);
-        return answer;
-    }
+    let gone = family_of_top(parents, index, x);
+    commit_row(states, busy, x)?;
     commit(parents, states, owners, index, gone, x);
-    stop(index, gone, x);
-    answer
+    index.stop(gone, x);
+    Ok(())
+}
+
+// Abort. Who is aborted leaves the children of its parent.
+pub(crate) fn abort_indexed(
+    parents: &mut [u8; 64],
+    states: &mut [u8; 64],
+    owners: &[u64; 256],
+    index: &mut Index,
+    x: u32,
+) -> Answer
+    ensures { EndKept 6 x (busy_by index.old x)
+        (table parents.old states.old owners.now index.old) (answer_number result)
+        (table parents.new states.new owners.now index.new) }
+{
+    let gone = family_of(index, x);
+    abort_row(states, x)?;
+    abort(parents, states, owners, index, gone, x);
+    Ok(())
 }

@@ -3,7 +3,8 @@ ghost use Rattle.std.specs.Prelude.{◌≡◌, ◌<◌, ◌+◌};
 ghost use Rattle.tables.specs.OneWord.{left_at};
 ghost use Rattle.index.specs.Places.{stand_in_place, still_in, places_of, left_in};
 
-use crate::{PLACES, UNKNOWN};
+use crate::{Index, UNKNOWN};
+use sets::Members;
 use steps::clear::clear_words;
 use steps::words::leave;
 
@@ -17,7 +18,8 @@ fn stand_in_place(owners: &[u64; 256], numbers: u64, place: usize) -> bool
     sets::meet(sets::union(readers, writers), numbers)
 }
 
-// Of the places, those from the first on at which one of the numbers stands, and none where there is no such place.
+// Of the places, those from the first on at which one of the numbers stands, and none where there is no such place. What is left of
+// the places is the answer, so the loop keeps it itself.
 pub(crate) fn still_in(owners: &[u64; 256], numbers: u64, places: u64) -> u64
     ensures { result ≡ still_in owners.now numbers places }
 {
@@ -33,15 +35,12 @@ pub(crate) fn still_in(owners: &[u64; 256], numbers: u64, places: u64) -> u64
 }
 
 // The places of all the numbers.
-pub(crate) fn places_of(index: &[u64; 257], numbers: u64) -> u64
+pub(crate) fn places_of(index: &Index, numbers: u64) -> u64
     ensures { result ≡ places_of index.now numbers }
 {
     let mut places = 0u64;
-    let mut rest = numbers;
-    while rest != 0 {
-        let k = sets::least(rest);
-        places = sets::union(places, index[PLACES + k]);
-        rest = sets::without_least(rest);
+    for k in Members(numbers) {
+        places = sets::union(places, index.places(k));
     }
     places
 }
@@ -66,10 +65,7 @@ pub(crate) fn leave_places(owners: &mut [u64; 256], gone: u64, places: u64)
         clear_words(owners, gone);
         return;
     }
-    let mut rest = places;
-    while rest != 0 {
-        let place = sets::least(rest);
+    for place in Members(places) {
         leave_place(owners, gone, place);
-        rest = sets::without_least(rest);
     }
 }

@@ -1,13 +1,14 @@
 // Quiet, with the group and the places that the index has.
 ghost use Rattle.std.specs.Prelude.{[], ◌≡◌};
+ghost use Rattle.marks.specs.Answers.{answer_number};
 ghost use Rattle.steps.specs.Changes.{left_instrument};
 ghost use Rattle.index.specs.Tables.{table};
 ghost use Rattle.index.specs.Places.{group_by};
 ghost use Rattle.index.specs.Kept.{QuietKept};
 
 use crate::places::still_in;
-use crate::{GROUPS, PLACES, UNKNOWN};
-use marks::answers::ACCEPTED;
+use crate::{Index, UNKNOWN};
+use marks::answers::Answer;
 use marks::states::FREE;
 use rows::ACTIONS;
 use rows::quiet::quiet_row;
@@ -16,10 +17,10 @@ use steps::draining::{group_of, stand_at};
 use steps::words::{leave, place};
 
 // The numbers that drain under a: those of the index, or where it doesn't know them those that the states tell.
-fn known_group<'a>(states: &'a [u8; 64], index: &'a [u64; 257], a: u32) -> u64
+fn known_group<'a>(states: &'a [u8; 64], index: &'a Index, a: u32) -> u64
     ensures { result ≡ group_by states.now index.now a }
 {
-    let kept = index[GROUPS + (a % ACTIONS) as usize];
+    let kept = index.group((a % ACTIONS) as usize);
     if kept != UNKNOWN {
         return kept;
     }
@@ -38,25 +39,22 @@ fn leave_instrument(owners: &mut [u64; 256], gone: u64, i: u32)
 pub(crate) fn quiet_indexed(
     states: &mut [u8; 64],
     owners: &mut [u64; 256],
-    index: &mut [u64; 257],
+    index: &mut Index,
     x: u32,
     y: u32,
-) -> u8
-    ensures { QuietKept x y (table [] states.old owners.old index.old) result
+) -> Answer
+    ensures { QuietKept x y (table [] states.old owners.old index.old) (answer_number result)
         (table [] states.new owners.new index.new) }
 {
     let group = known_group(states, index, x);
-    let answer = quiet_row(states, stand_at(owners, group, y), x, y);
-    if answer != ACCEPTED {
-        return answer;
-    }
+    quiet_row(states, stand_at(owners, group, y), x, y)?;
     let a = (x % ACTIONS) as usize;
     leave_instrument(owners, group, y);
-    let still = still_in(owners, group, index[PLACES + a]);
-    index[GROUPS + a] = group;
-    index[PLACES + a] = still;
+    let still = still_in(owners, group, index.places(a));
+    index.put_group(a, group);
+    index.put_places(a, still);
     if still == 0 {
         put_bytes(states, group, FREE);
     }
-    answer
+    Ok(())
 }

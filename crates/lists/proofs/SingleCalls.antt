@@ -1,18 +1,18 @@
 -- A call gives what single calls in list order give: the same answers at their places, and the same bench. Assumes nothing.
 use mathlib.Core.Path.{◌≡◌, refl, sym, ◌∙◌, ap, ap₂}
-use mathlib.Core.List.{List, [], ◌∷◌, map, map-map}
+use mathlib.Core.List.{List, ◌∷◌, map, map-map}
 use Prim.Native.Nat.{ℕ, ◌≤◌}
 use lib.ListN.{length, length-map}
 use Rattle.rules.specs.Answers.{answered}
 use Rattle.rules.specs.ReadWrite.{read_write}
-use Rattle.rules.specs.Lists.{Entry, entry_request, list_answered, after_list, Call}
+use Rattle.rules.specs.Lists.{entry_request, list_answered, after_list}
 use Rattle.rules.proofs.Lists.{call_played}
 use Rattle.bench.specs.declared.Bench.{Bench}
 use Rattle.bench.specs.declared.Reply.{Reply}
 use Rattle.bench.specs.Record.{viewed}
 use Rattle.bench.proofs.Unique.{Fits, view_injective}
 use Rattle.lists.specs.declared.Request.{Request}
-use Rattle.lists.specs.Listed.{entry, called, ReturnsOne, ReturnsList}
+use Rattle.lists.specs.Listed.{entry, called, ReturnsList}
 use Rattle.lists.specs.Singly.{Singly, none_left, then}
 
 -- A list of at most 32 that was played, read as the rules have it.

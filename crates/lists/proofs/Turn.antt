@@ -1,7 +1,7 @@
 -- A turn of the loop over a lent list, as laws on plain values: the places before i have their answers, and playing the others from here gives what playing the whole
 -- list gives. Assumes nothing.
 use mathlib.Core.Path.{◌≡◌, refl, sym, ◌∙◌, ap, ap₂, subst}
-use mathlib.Core.Bool.{Bool, true, false}
+use mathlib.Core.Bool.{true, false}
 use mathlib.Core.List.{List, [], ◌∷◌, ◌++◌, map, map-append, append-nil}
 use Prim.Native.Nat.{ℕ, suc, ◌+◌, ◌<◌, ◌≤◌}
 use native.Mathlib.Omega.{arith}
@@ -12,12 +12,11 @@ use lib.Seq.{take_all, drop-cons, take-suc-set, drop-set-lt, append_snoc}
 use Rattle.rules.specs.Bench as rules
 use Rattle.rules.specs.Answers.{Outcome, answered}
 use Rattle.rules.specs.ReadWrite.{read_write}
-use Rattle.rules.specs.Lists.{Entry, entry_request, with_answer, list_answered, after_list, Call, call}
+use Rattle.rules.specs.Lists.{entry_request, with_answer, list_answered, after_list, call}
 use Rattle.bench.specs.declared.Bench.{Bench}
-use Rattle.bench.specs.declared.Reply.{Reply}
-use Rattle.bench.specs.Record.{viewed, seen}
+use Rattle.bench.specs.Record.{viewed}
 use Rattle.lists.specs.declared.Request.{Request}
-use Rattle.lists.specs.Listed.{entry, ReturnsOne, ReturnsList}
+use Rattle.lists.specs.Listed.{entry, ReturnsList}
 
 -- what is read behind the list's end
 abbrev pub absent : Request

@@ -1,12 +1,12 @@
 -- No second result satisfies a contract: the reading of a request record loses nothing, and neither does that of a bench (`bench` proofs/Unique). So a contract that
 -- gives the call read from a result gives the result. Assumes nothing.
-use mathlib.Core.Path.{◌≡◌, refl, sym, ◌∙◌, ap}
-use mathlib.Core.List.{List, [], ◌∷◌, map, map-map, map-id}
+use mathlib.Core.Path.{◌≡◌, sym, ◌∙◌, ap}
+use mathlib.Core.List.{List, map, map-map, map-id}
 use Prim.Native.Nat.{◌<◌}
 use lib.ListN.{length, length-map}
 use Rattle.rules.specs.Answers.{answered}
 use Rattle.rules.specs.ReadWrite.{read_write}
-use Rattle.rules.specs.Lists.{Entry, entry_request, Call, call}
+use Rattle.rules.specs.Lists.{Entry, entry_request}
 use Rattle.rules.proofs.Lists.{call_refused, call_length}
 use Rattle.bench.specs.declared.Bench.{Bench}
 use Rattle.bench.specs.declared.Reply.{Reply}

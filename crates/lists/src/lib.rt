@@ -5,13 +5,13 @@
 ghost use Rattle.lists.specs.Listed.{ReturnsOne, ReturnsList};
 
 use bench::{Bench, Reply};
-use marks::answers::{ACCEPTED, MALFORMED, TOO_LONG};
-use marks::codes::{ABORT, COMMIT, OPEN_SUB, OPEN_TOP, QUIET, READ, WRITE};
+use marks::answers::{Refusal, number};
+use marks::requests;
 
 // How many requests a list has at most.
 pub const LONGEST: usize = 32;
 
-// A request record: its kind, which is the frame's code, two numbers, a spare one ignored, and a place for the answer.
+// A request record, as document 02 shapes it: its kind, which is the frame's code and may be any byte, two numbers, a spare one ignored, and a place for the answer's number.
 #[derive(Clone, Copy)]
 pub struct Request {
     pub kind: u8,
@@ -20,64 +20,41 @@ pub struct Request {
     pub answer: u8,
 }
 
-// A request by itself: 8 where its kind is no request's, whatever the bench is, and else what the bench's method of its kind returns.
-pub fn play_one(bench: Bench, request: Request) -> Reply
+// A request by itself, in place: 8 where its kind is no request's, whatever the bench is, and else what the bench's request of its kind is answered.
+fn play_in_place(bench: &mut Bench, request: Request) -> u8
+    ensures { ReturnsOne bench.old request (record { bench = bench.new; answer = result }) }
+{
+    let answer = match requests::Request::framed(request.kind, request.x, request.y) {
+        Some(asked) => bench.make(asked),
+        None => Err(Refusal::Malformed),
+    };
+    number(answer)
+}
+
+// The same by value.
+pub fn play_one(mut bench: Bench, request: Request) -> Reply
     ensures { ReturnsOne bench request result }
 {
-    let kind = request.kind;
-    let x = request.x;
-    let y = request.y;
-    if kind == OPEN_TOP {
-        return bench.open_top(x);
-    }
-    if kind == OPEN_SUB {
-        return bench.open_sub(x, y);
-    }
-    if kind == READ {
-        return bench.read(x, y);
-    }
-    if kind == WRITE {
-        return bench.write(x, y);
-    }
-    if kind == COMMIT {
-        return bench.commit(x);
-    }
-    if kind == ABORT {
-        return bench.abort(x);
-    }
-    if kind == QUIET {
-        return bench.quiet(x, y);
-    }
-    Reply {
-        bench: bench,
-        answer: MALFORMED,
-    }
+    let answer = play_in_place(&mut bench, request);
+    Reply { bench, answer }
 }
 
 // A list in one call: 11 where it is longer than 32, and list and bench stay; else 0, with an answer in each place and the bench that the last request left.
-pub fn play_list(bench: Bench, list: &mut [Request]) -> Reply
+pub fn play_list(mut bench: Bench, list: &mut [Request]) -> Reply
     ensures { ReturnsList bench list.old result list.new }
 {
-    let count = list.len();
-    if count > LONGEST {
+    if LONGEST < list.len() {
         return Reply {
-            bench: bench,
-            answer: TOO_LONG,
+            bench,
+            answer: number(Err(Refusal::TooLong)),
         };
     }
-    let mut reply = Reply {
-        bench: bench,
-        answer: ACCEPTED,
-    };
-    let mut at = 0usize;
-    while at < count {
-        reply = play_one(reply.bench, list[at]);
-        list[at].answer = reply.answer;
-        at = at + 1;
+    for request in list.iter_mut() {
+        request.answer = play_in_place(&mut bench, *request);
     }
     Reply {
-        bench: reply.bench,
-        answer: ACCEPTED,
+        bench,
+        answer: number(Ok(())),
     }
 }
 

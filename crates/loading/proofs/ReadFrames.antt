@@ -1,17 +1,17 @@
 -- Where a frame stands, there is text: a place behind the text holds 0, which is no 0a. And what a test of the two values of a frame says of the text.
-use mathlib.Core.Path.{◌≡◌, refl, sym, ◌∙◌}
+use mathlib.Core.Path.{◌≡◌, sym, ◌∙◌, ap, ap₂}
 use mathlib.Core.List.{List}
 use mathlib.Core.Bool.{Bool, true, false, not, ◌&&◌, and_comm}
-use Prim.Native.Nat.{ℕ, ◌+◌, ◌^◌, ◌<◌, ◌≤◌}
+use Prim.Native.Nat.{ℕ, ◌+◌, ◌<◌, ◌≤◌}
+use Rattle.std.specs.Prelude.{Option, Some, None, is_some, unwrap_or}
 use lib.Dec.{eqb, leb}
 use lib.ListN.{length, get_or-eq_default}
 use borrow.Author.Tests.{leb-true, leb-false, not-false}
 use Rattle.rules.proofs.Tests.{by_bool, clash, and_left}
 use Rattle.loading.specs.declared.fields.Fields.{Fields}
-use Rattle.forms.specs.Kinds.{FrameShape, frame_digits, Kind}
-use Rattle.forms.specs.WellShaped.{number_at, frame_at, head_at, first_at, second_at, stands_at}
-use Rattle.loading.specs.Fields.{fields_at}
-use Rattle.forms.proofs.Hex.{number_fits}
+use Rattle.forms.specs.Kinds.{FrameShape, even_shape, frame_digits, Kind}
+use Rattle.forms.specs.WellShaped.{number_at, frame_at, head_at, first_at, second_at, stands_at, first_in, second_in}
+use Rattle.loading.specs.Fields.{fields_at, elements_of}
 
 module _ (text : List ℕ) (at n : ℕ) where
   pub frame_past : length text ≤ at + n → frame_at text at n ≡ false
@@ -35,32 +35,57 @@ module _ (f : FrameShape) (text : List ℕ) (at k : ℕ) where
   pub head_fits : (r : Bool) → r ≡ head_at f text at k → not r ≡ false → at + frame_digits f < length text
   head_fits r e h = head_within (sym e ∙ not-false r h)
 
--- what is known of the two values where the frame of such a shape stands
-pub record Said (f : FrameShape) (text : List ℕ) (at : ℕ) (r : Fields) : Type 0 where
-  pub first : r.first ≡ first_at f text at
-  pub second : r.second ≡ second_at f text at
-  pub first_fits : r.first < 16 ^ f.first_digits
-  pub second_fits : r.second < 16 ^ f.second_digits
-  pub within : at + frame_digits f < length text
+-- ---- the two elements that they say
 
-module _ (K : Kind) (text : List ℕ) (at k : ℕ) {r : Fields} (e : r ≡ fields_at K.shape text at k) where
-  -- the test of both values is the test of the frame
-  pub fields_tested : stands_at K text at k ≡ (r.stands && K.fits r.first r.second)
-  unfolding fields_at stands_at
-  fields_tested = by_bool (head_at K.shape text at k) (λ h. rw (e, h)) (λ h. rw (e, h))
-
-  -- where it holds, they are the numbers in the text
-  pub fields_said : (r.stands && K.fits r.first r.second) ≡ true → Said K.shape text at r
+module _ (K : Kind) (text : List ℕ) (at k : ℕ) where
+  -- there are values where a frame stands
+  some_head : is_some (fields_at K.shape text at k) ≡ head_at K.shape text at k
   unfolding fields_at
-  fields_said holds =
-      let f = K.shape in
-      by_bool (head_at f text at k)
-      (λ h.
-      record {
-        first = rw (e, h);
-        second = rw (e, h);
-        first_fits = rw (e, h) (number_fits f.first_digits text (at + 4));
-        second_fits = rw (e, h) (number_fits f.second_digits text (at + (4 + f.first_digits)));
-        within = head_within f text at k h;
-      })
-      (λ h. clash false (rw (e, h) at holds) refl)
+  some_head = by_bool (head_at K.shape text at k) (λ e. rw e) (λ e. rw e)
+
+  -- and elements where they are values of the kind
+  some_fits : (x y : ℕ) → is_some (elements_of K x y) ≡ K.fits x y
+  some_fits x y = by_bool (K.fits x y) (λ e. rw e) (λ e. rw e)
+
+  pub none_stands : fields_at K.shape text at k ≡ None → stands_at K text at k ≡ false
+  unfolding stands_at
+  none_stands h = let none : head_at K.shape text at k ≡ false = sym some_head ∙ ap is_some h in rw none
+
+  module _ {r : Fields} (said : fields_at K.shape text at k ≡ Some r) where
+    headed : head_at K.shape text at k ≡ true
+    headed = sym some_head ∙ ap is_some said
+
+    pub said_within : at + frame_digits K.shape < length text
+    said_within = head_within K.shape text at k headed
+
+    values_said : record { first = first_at K.shape text at; second = second_at K.shape text at } ≡ r
+    unfolding fields_at
+    values_said = rw headed at (ap (λ o. unwrap_or o r) said)
+
+    stands_said : stands_at K text at k ≡ is_some (elements_of K r.first r.second)
+    unfolding stands_at
+    stands_said = rw headed (ap (λ (v : Fields). K.fits v.first v.second) values_said ∙ sym (some_fits r.first r.second))
+
+    pub other_stands : elements_of K r.first r.second ≡ None → stands_at K text at k ≡ false
+    other_stands h = stands_said ∙ ap is_some h
+
+    module _ {x y : ℕ} (given : elements_of K r.first r.second ≡ Some (x, y)) where
+      pub frame_stands : stands_at K text at k ≡ true
+      frame_stands = stands_said ∙ ap is_some given
+
+      both_said : ◌≡◌ {A = ℕ × ℕ} (K.first_element r.first r.second, K.second_element r.first r.second) (x, y)
+      both_said =
+          let fits : K.fits r.first r.second ≡ true = sym (some_fits r.first r.second) ∙ ap is_some given in
+          rw fits at (ap (λ o. unwrap_or o (x, y)) given)
+
+      pub first_said : x ≡ first_in K text at
+      first_said = sym (ap (λ v. v.0) both_said) ∙ sym (ap (λ (v : Fields). K.first_element v.first v.second) values_said)
+
+      pub second_said : y ≡ second_in K text at
+      second_said = sym (ap (λ v. v.1) both_said) ∙ sym (ap (λ (v : Fields). K.second_element v.first v.second) values_said)
+
+-- code has a kind's digits and code as numbers: what it reads with them is what stands of the kind
+pub fields_of : (K : Kind) (text : List ℕ) (at k : ℕ) {w code digits coded : ℕ} {r : Option Fields} → w ≡ digits → code ≡ coded → K.shape ≡ even_shape digits coded
+    → r ≡ fields_at (even_shape w code) text at k → fields_at K.shape text at k ≡ r
+fields_of K text at k {digits = digits} {coded = coded} ew ec shaped e =
+    ap (λ f. fields_at f text at k) (shaped ∙ sym (ap₂ even_shape ew ec)) ∙ sym e

@@ -6,6 +6,8 @@ use Prim.Native.Nat.{ℕ, ◌+◌, ◌<◌, ◌≤◌}
 use native.Mathlib.Omega.{arith}
 use lib.ListN.{length, set}
 use lib.Seq.{take-set-le, take-set-lt, drop-set-lt, drop-set-add}
+use mathlib.Core.List.{map}
+use Rattle.std.proofs.lemmas.List.{map-set}
 use Rattle.forms.specs.Kinds.{Kind, frame_size}
 use Rattle.forms.specs.WellShaped.{stands_at, first_in, second_in, take_of}
 use Rattle.loading.specs.Halves.{halves, ReadInto}
@@ -22,6 +24,12 @@ module _ (K : Kind) (text : List ℕ) (at n k : ℕ) (l : List ℕ) where
   -- it doesn't
   pub halves_passed : stands_at K text at k ≡ false → halves n at l ≡ take_of K text k (halves n at l)
   halves_passed none = rw none
+
+-- the same of a list whose elements have a number each, with the frame's bytes and the second place as code has them
+module _ (K : Kind) (text : List ℕ) (at n k : ℕ) {A : Type 0} (number : A → ℕ) (l : List A) where
+  pub elements_entered : {size place : ℕ} → size ≡ frame_size K.shape → place ≡ n + k → k < n → stands_at K text at k ≡ true → {x y : A} → number x ≡ first_in K text at → number y ≡ second_in K text at → halves n (at + size) (map number (set (set l k x) place y)) ≡ take_of K text k (halves n at (map number l))
+  elements_entered {size} {place} sized placed below stands {x} {y} ex ey =
+      rw (map-set, map-set, sized, placed) (halves_entered K text at n k (map number l) below stands ex ey)
 
 -- ---- all frames of a kind
 

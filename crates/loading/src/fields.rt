@@ -14,18 +14,8 @@ fn frame_at(text: &[u8], at: usize, n: usize) -> bool
     if text.len() - at <= n {
         return false;
     }
-    let mut ok = true;
-    for j in 0..n {
-        ok = ok & (digits::value(text[at + j]) < 16);
-    }
+    let ok = text[at..at + n].iter().all(|c| digits::value(*c).is_some());
     ok & (text[at + n] == b'\n')
-}
-
-// A digit's value, as a word.
-fn value_of(c: u8) -> u64
-    ensures { result ≡ digit_of c % 16 }
-{
-    (digits::value(c) % 16) as u64
 }
 
 // The number that n digits write.
@@ -34,8 +24,8 @@ fn number_at(text: &[u8], at: usize, n: usize) -> u64
     ensures { result ≡ number_at text.now at n }
 {
     let mut number: u64 = 0;
-    for j in 0..n {
-        number = number * 16 + value_of(text[at + j]);
+    for c in &text[at..at + n] {
+        number = number * 16 + u64::from(digits::value(*c).unwrap_or(0));
     }
     number
 }
@@ -53,29 +43,23 @@ fn headed(text: &[u8], at: usize, w: usize, kind: u64, k: usize) -> bool
     (first == kind) & (second == k as u64)
 }
 
-// The two values of a frame, and whether it stands there; where it doesn't, both are 0.
-#[derive(Drop)]
+// The two values of a frame.
+#[derive(Clone, Copy)]
 pub(crate) struct Fields {
-    pub(crate) stands: bool,
     pub(crate) first: u64,
     pub(crate) second: u64,
 }
 
-// The frame of `kind` and k with values of w digits, if it stands there.
-pub(crate) fn fields_at(text: &[u8], at: usize, w: usize, kind: u64, k: usize) -> Fields
+// The values of the frame of `kind` and k, of w digits each; none where it doesn't stand there.
+pub(crate) fn fields_at(text: &[u8], at: usize, w: usize, kind: u64, k: usize) -> Option<Fields>
     requires { w ≤ 16 }
     ensures { result ≡ fields_at (even_shape w kind) text.now at k }
 {
     if !headed(text, at, w, kind, k) {
-        return Fields {
-            stands: false,
-            first: 0,
-            second: 0,
-        };
+        return None;
     }
-    Fields {
-        stands: true,
+    Some(Fields {
         first: number_at(text, at + 4, w),
         second: number_at(text, at + (4 + w), w),
-    }
+    })
 }

@@ -4,14 +4,51 @@
 
 mod fields;
 
-ghost use Rattle.std.specs.Prelude.{◌≡◌, ◌<◌, length};
+ghost use Rattle.std.specs.Prelude.{◌≡◌, ℕ, ◌+◌, ◌<◌, length, map, option_map};
 ghost use Rattle.forms.specs.Kinds.{parent_byte, state_byte, action, instrument};
 ghost use Rattle.forms.specs.WellShaped.{take_of};
+ghost use Rattle.loading.specs.Fields.{elements_of};
 ghost use Rattle.loading.specs.Halves.{halves, ReadInto};
 
-use forms::{
-    ACTION_CODE, ACTION_DIGITS, ACTION_SIZE, INSTRUMENT_CODE, INSTRUMENT_DIGITS, INSTRUMENT_SIZE,
-};
+use forms::{Action, FrameKind, Instrument};
+
+// A kind of frame whose two values say two elements.
+trait Elements: FrameKind {
+    type Element: Copy;
+
+    ghost number: { Self.Element → ℕ };
+
+    // The two elements that two values say; none where a frame can't have these values.
+    fn elements_said(first: u64, second: u64) -> Option<(Self::Element, Self::Element)>
+        ensures { option_map (λ v. (number v.0, number v.1)) result ≡ elements_of Self.kind first second };
+}
+
+impl Elements for Action {
+    type Element = u8;
+
+    ghost number = { λ x. x };
+
+    fn elements_said(ss: u64, pp: u64) -> Option<(u8, u8)> {
+        match (ss, pp) {
+            (1..=3, 0..=63 | 0xff) => Some((parent_byte(ss, pp), state_byte(ss, pp))),
+            _ => None,
+        }
+    }
+}
+
+impl Elements for Instrument {
+    type Element = u64;
+
+    ghost number = { λ x. x };
+
+    fn elements_said(read: u64, write: u64) -> Option<(u64, u64)> {
+        if (read == 0) & (write == 0) {
+            None
+        } else {
+            Some((read, write))
+        }
+    }
+}
 
 // A parent's byte in the record, from ss and pp: none for a number that drains and for a top action.
 fn parent_byte(ss: u64, pp: u64) -> u8
@@ -41,34 +78,32 @@ fn state_byte(ss: u64, pp: u64) -> u8
     67
 }
 
-// Reads the frame of action k, if it stands there; hands back where the text goes on.
-fn take_action(text: &[u8], at: usize, k: usize, actions: &mut [u8]) -> usize
-    requires { (k < 64) × (length actions.old ≡ 128) }
-    ensures { halves 64 result actions.new ≡ take_of action text.now k (halves 64 at actions.old) }
+// Reads the frame of number k, if it stands there, into the two halves of a list; hands back where the text goes on.
+fn take_frame<K: Elements>(text: &[u8], at: usize, k: usize, list: &mut [K::Element]) -> usize
+    requires { (k < K.COUNT) × (length list.old ≡ K.COUNT + K.COUNT) }
+    ensures { halves K.COUNT result (map K.number list.new) ≡ take_of K.kind text.now k (halves K.COUNT at (map K.number list.old)) }
 {
-    let said = fields::fields_at(text, at, ACTION_DIGITS, ACTION_CODE, k);
-    let ss = said.first;
-    let pp = said.second;
-    if said.stands & ((ss == 1) | (ss == 2) | (ss == 3)) & ((pp < 64) | (pp == 0xff)) {
-        actions[k] = parent_byte(ss, pp);
-        actions[64 + k] = state_byte(ss, pp);
-        return at + ACTION_SIZE;
-    }
-    at
+    let Some(said) = fields::fields_at(text, at, K::DIGITS, K::CODE, k) else {
+        return at;
+    };
+    let Some(elements) = K::elements_said(said.first, said.second) else {
+        return at;
+    };
+    list[k] = elements.0;
+    list[K::COUNT + k] = elements.1;
+    at + K::SIZE
 }
 
-// Reads the frame of instrument i, if it stands there; hands back where the text goes on.
-fn take_instrument(text: &[u8], at: usize, i: usize, owners: &mut [u64]) -> usize
-    requires { (i < 128) × (length owners.old ≡ 256) }
-    ensures { halves 128 result owners.new ≡ take_of instrument text.now i (halves 128 at owners.old) }
+// Reads the frames of a kind from place `from` on; hands back where they end.
+fn read_frames<K: Elements>(text: &[u8], from: usize, list: &mut [K::Element]) -> usize
+    ensures { ReadInto K.kind K.COUNT text.now from (map K.number list.old) result (map K.number list.new) }
 {
-    let said = fields::fields_at(text, at, INSTRUMENT_DIGITS, INSTRUMENT_CODE, i);
-    let read = said.first;
-    let write = said.second;
-    if said.stands & !((read == 0) & (write == 0)) {
-        owners[i] = read;
-        owners[128 + i] = write;
-        return at + INSTRUMENT_SIZE;
+    if list.len() != K::COUNT + K::COUNT {
+        return from;
+    }
+    let mut at = from;
+    for k in 0..K::COUNT {
+        at = take_frame::<K>(text, at, k, list);
     }
     at
 }
@@ -78,14 +113,7 @@ fn take_instrument(text: &[u8], at: usize, i: usize, owners: &mut [u64]) -> usiz
 pub fn read_actions(text: &[u8], actions: &mut [u8]) -> usize
     ensures { ReadInto action 64 text.now 0 actions.old result actions.new }
 {
-    if actions.len() != 128 {
-        return 0;
-    }
-    let mut at: usize = 0;
-    for k in 0..64usize {
-        at = take_action(text, at, k, actions);
-    }
-    at
+    read_frames::<Action>(text, 0, actions)
 }
 
 // Reads the frames of instruments from place `from` on; hands back where they end.
@@ -93,12 +121,5 @@ pub fn read_actions(text: &[u8], actions: &mut [u8]) -> usize
 pub fn read_instruments(text: &[u8], from: usize, owners: &mut [u64]) -> usize
     ensures { ReadInto instrument 128 text.now from owners.old result owners.new }
 {
-    if owners.len() != 256 {
-        return from;
-    }
-    let mut at = from;
-    for i in 0..128usize {
-        at = take_instrument(text, at, i, owners);
-    }
-    at
+    read_frames::<Instrument>(text, from, owners)
 }

@@ -1,7 +1,7 @@
-// What numbers mean: the bytes of states, the answers of document 01's table, the codes of frames; and bytes as indices.
+// What numbers mean: the bytes of states, the answers of document 01's table, the codes of frames.
 #![tactic(auto)]
 
 pub mod answers;
-pub mod bytes;
 pub mod codes;
+pub mod requests;
 pub mod states;

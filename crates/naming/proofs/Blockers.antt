@@ -1,25 +1,27 @@
 -- The smallest number of the blocking set, and what is told of it. Assumes nothing.
 use mathlib.Core.Path.{◌≡◌, refl, sym, ◌∙◌, ap}
-use mathlib.Core.Bool.{Bool, true, ◌&&◌}
+use mathlib.Core.Bool.{Bool, true, false, ◌&&◌}
 use mathlib.Core.List.{List}
 use mathlib.Core.Option.{some}
 use Prim.Native.Nat.{ℕ, ◌%◌, ◌<◌, ◌^◌}
 use native.Mathlib.Nat.{mod-eq_of_lt, lt_trans}
 use native.Mathlib.Omega.{arith}
 use lib.Count.{count_trailing_zeros}
+use borrow.Author.Tests.{eqb-true, eq-eqb}
 use lib.Dec.{eqb}
 use lib.ListN.{get_or}
+use Rattle.std.specs.Prelude.{Option, Some, None, IfSome, unwrap_or}
 use Rattle.sets.specs.Sets.{member, difference, least}
 use Rattle.sets.proofs.Laws.{member_empty, member_union, member_difference, member_outside, no_members, least_member, least_inside, least_first}
 use Rattle.rules.specs.Tests.{from}
 use Rattle.rules.specs.Reasons.{smallest}
-use Rattle.rules.proofs.Tests.{by_bool, by_parent, clash}
-use Rattle.rules.proofs.Smallest.{smallest_none, smallest_is, smallest_one}
+use Rattle.rules.proofs.Tests.{by_bool, by_parent, clash, and_left, and_right}
+use Rattle.rules.proofs.Smallest.{smallest_none, smallest_is, smallest_one, smallest_from}
 use Rattle.views.specs.Tree.{met_from}
 use Rattle.views.specs.Owners.{conflicting}
 use Rattle.views.specs.Reach.{owns_set}
 use Rattle.naming.specs.Blocking.{against_frame, blocks_in, drains_in, blocked_in, child_with}
-use Rattle.naming.specs.declared.Reason.{Reason}
+use Rattle.naming.specs.declared.Somebody.{Somebody}
 
 -- ---- the blocking set
 
@@ -71,7 +73,7 @@ module _ (parents states : List ℕ) (readers writers code a : ℕ) (reading wri
 
     -- what is told of the least of the blocking set, 64 where it is empty
     pub blocked_in_lem : (found : ℕ) (reads writes drains : Bool) → found ≡ least 64 blocking → reads ≡ member reading found → writes ≡ member writing found → drains ≡ drains_in states found →
-        ◌≡◌ {A = Reason} (record { answer = 6; names = true; number = found % 64; reads = reads; writes = writes; drains = drains }) (blocked_in parents states readers writers code a)
+        ◌≡◌ {A = Somebody} (record { number = found % 64; reads = reads; writes = writes; drains = drains }) (blocked_in parents states readers writers code a)
     blocked_in_lem found reads writes drains is owns_reading owns_writing told_draining =
         by_parent (smallest 64 test)
         (λ nobody.
@@ -85,12 +87,35 @@ module _ (parents states : List ℕ) (readers writers code a : ℕ) (reading wri
 
 -- ---- a running child
 
--- the number of the child found, and 0 where there is none
-pub child_number : (parents states : List ℕ) (parent found : ℕ) → found ≡ from (child_with parents states parent) 64 (λ k. k) → found % 64 ≡ from (child_with parents states parent) 0 (λ k. k)
-child_number parents states parent found is =
-    by_parent (child_with parents states parent)
-    (λ nobody. let outside : found ≡ 64 = is ∙ rw nobody in rw (nobody, outside))
-    (λ k e.
-    let here : found ≡ k = is ∙ rw e in
-    let known : k < 64 = (smallest_is 64 (λ j. eqb (get_or states j 0) 1 && eqb (get_or parents j 0) parent) k e).known in
-    rw (e, here, mod-eq_of_lt known))
+a_child : (state above parent : ℕ) → state ≡ 1 → above ≡ parent → (eqb state 1 && eqb above parent) ≡ true
+a_child state above parent e g = rw (eq-eqb state 1 e, eq-eqb above parent g)
+
+no_child : (state above parent : ℕ) → (state ≡ 1 → above ≡ parent → ⊥) → (eqb state 1 && eqb above parent) ≡ false
+no_child state above parent h =
+    by_bool (eqb state 1 && eqb above parent)
+    (λ t. absurd (h (eqb-true state 1 (and_left (eqb state 1) (eqb above parent) t)) (eqb-true above parent (and_right (eqb state 1) (eqb above parent) t))))
+    (λ t. t)
+
+module _ (parents states : List ℕ) (parent : ℕ) where
+  -- k is no running child
+  abbrev pub NoChild : ℕ → Type 0
+  NoChild k = get_or states k 0 ≡ 1 → get_or parents k 0 ≡ parent → ⊥
+
+  abbrev is_child : ℕ → Bool
+  is_child k = eqb (get_or states k 0) 1 && eqb (get_or parents k 0) parent
+
+  -- the number of the child found, and 0 where there is none
+  pub child_number : (found : Option ℕ) → IfSome found (λ k. (k < 64) × (get_or states k 0 ≡ 1) × (get_or parents k 0 ≡ parent)) → IfSome found (λ k. (j : ℕ) → j < k → NoChild j) →
+      (found ≡ None → (j : ℕ) → j < 64 → NoChild j) → unwrap_or found 0 ≡ from (child_with parents states parent) 0 (λ k. k)
+  child_number None is first none =
+      by_parent (child_with parents states parent) (λ nobody. rw nobody)
+      (λ k e.
+      let one = smallest_is 64 is_child k e in
+      clash (is_child k) one.holds (no_child (get_or states k 0) (get_or parents k 0) parent (none refl k one.known)))
+  child_number (Some k) is first none =
+      rw (smallest_from 64 is_child k
+      (record {
+        known = is.0;
+        holds = a_child (get_or states k 0) (get_or parents k 0) parent is.1 is.2;
+        first = λ j l. no_child (get_or states j 0) (get_or parents j 0) parent (first j l);
+      }))

@@ -2,6 +2,8 @@
 use mathlib.Core.Path.{◌≡◌, refl, sym, ◌∙◌, ap}
 use mathlib.Core.Bool.{Bool, true, false, not, ◌&&◌, ◌||◌, and-true, or-false, or_comm}
 use mathlib.Core.List.{List}
+use Rattle.std.specs.Prelude.{Some}
+use Rattle.naming.specs.declared.Reason.{Reason}
 use mathlib.Core.Option.{Option, none, some}
 use Prim.Native.Nat.{ℕ, ◌+◌, ◌%◌, ◌≤◌, ◌<◌}
 use native.Mathlib.Nat.{mod-eq_of_lt}
@@ -36,13 +38,13 @@ use Rattle.naming.specs.Blocking.{against_frame, blocks_in, blocked_in, child_wi
 use Rattle.naming.proofs.Frames.{offending_framed, child_framed, asked_framed, is_request}
 
 module _ (b : rules.Bench) (q : Option Request) (n : ℕ) (e : n ≡ (reason_of read_write b q).answer) where
-  told_nobody : ((r : Request) → named read_write b r n ≡ none) → (n ≡ 6 → ⊥) → nobody_for n ≡ told (reason_of read_write b q)
+  told_nobody : ((r : Request) → named read_write b r n ≡ none) → nobody_for n ≡ told (reason_of read_write b q)
   unfolding reason_of reason_for
-  told_nobody quiet other = by_request q e
+  told_nobody quiet = by_request q e
     where
       by_request : (q : Option Request) → n ≡ (reason_of read_write b q).answer → nobody_for n ≡ told (reason_of read_write b q)
       by_request none h = rw h
-      by_request (some r) h = rw (← h, quiet r, ne_eqb n 6 other)
+      by_request (some r) h = rw (← h, quiet r)
 
   told_named : (r : Request) (k : ℕ) → q ≡ some r → named read_write b r n ≡ some k → (n ≡ 6 → ⊥) → named_for n k ≡ told (reason_of read_write b q)
   unfolding reason_of reason_for
@@ -53,10 +55,10 @@ module _ (b : rules.Bench) (q : Option Request) (n : ℕ) (e : n ≡ (reason_of 
   -- ---- 0, 7, 8 and any other above 6 but 10
 
   accepted_told : n ≡ 0 → nobody_for n ≡ told (reason_of read_write b q)
-  accepted_told z = told_nobody (λ r. rw z (nobody_accepted read_write b r)) (λ six. omega arith)
+  accepted_told z = told_nobody (λ r. rw z (nobody_accepted read_write b r))
 
   above_told : 6 < n → (n ≡ 10 → ⊥) → nobody_for n ≡ told (reason_of read_write b q)
-  above_told l other = told_nobody (λ r. nobody_above read_write b r n l other) (λ six. omega arith)
+  above_told l other = told_nobody (λ r. nobody_above read_write b r n l other)
 
 -- ---- 1 to 4, and 10
 
@@ -83,7 +85,7 @@ named_child : (b : rules.Bench) (r : Request) (n k : ℕ) → n ≡ 5 → child 
 unfolding named
 named_child b r n k five found = rw five found
 
-told_blocker : (b : rules.Bench) (q : Option Request) (m a i h : ℕ) → q ≡ some (ask m a i) → answer_of read_write b (ask m a i) ≡ 6 → smallest 64 (blocks read_write b m a i) ≡ some h → told (reason_of read_write b q) ≡ record { answer = 6; names = true; number = h; reads = is_owner read_write b reading i h; writes = is_owner read_write b writing i h; drains = drains_under b h h }
+told_blocker : (b : rules.Bench) (q : Option Request) (m a i h : ℕ) → q ≡ some (ask m a i) → answer_of read_write b (ask m a i) ≡ 6 → smallest 64 (blocks read_write b m a i) ≡ some h → told (reason_of read_write b q) ≡ record { answer = 6; names = Some (record { number = h; reads = is_owner read_write b reading i h; writes = is_owner read_write b writing i h; drains = drains_under b h h }) }
 unfolding named blocker owns_asked reason_of reason_for
 told_blocker b q m a i h is answer found = rw (is, answer, found)
 
@@ -166,16 +168,20 @@ module _ (parents states reads writes : List ℕ) (code x y n : ℕ) (e : n ≡ 
           let ei : i ≡ y = cc in
           from_frame (is ∙ ap some same) (rw ea at la) (rw ei at li) (rw same at answer)
 
-  blocked_told : n ≡ 6 → blocked_in parents states (get_or reads (y % 128) 0) (get_or writes (y % 128) 0) code (x % 64) ≡ told (reason_of read_write b (framed code x y))
+  abbrev blocked_reason : Reason
+  blocked_reason = record { answer = n; names = Some (blocked_in parents states (get_or reads (y % 128) 0) (get_or writes (y % 128) 0) code (x % 64)) }
+
+  blocked_told : n ≡ 6 → blocked_reason ≡ told (reason_of read_write b (framed code x y))
   blocked_told six = by_refusal (refusal six)
     where
-      by_refusal : Refusal → blocked_in parents states (get_or reads (y % 128) 0) (get_or writes (y % 128) 0) code (x % 64) ≡ told (reason_of read_write b (framed code x y))
+      by_refusal : Refusal → blocked_reason ≡ told (reason_of read_write b (framed code x y))
       by_refusal f =
           let blocking : ℕ → Bool = blocks_in parents states (get_or reads y 0) (get_or writes y 0) code x in
           let here : smallest 64 blocking ≡ some f.h =
           sym (smallest_cong 64 (blocks read_write b (mode_of (eqb code 4)) x y) blocking (λ k l. blocks_same f.is_sound x y k f.known)) ∙ f.found in
           let known = (smallest_is 64 blocking f.h here).known in
           rw (
+            six,
             mod-eq_of_lt f.known,
             mod-eq_of_lt f.instrument_known,
             here,
@@ -188,7 +194,6 @@ module _ (parents states reads writes : List ℕ) (code x y n : ℕ) (e : n ≡ 
 
   -- each answer is told as its row says
   pub named_told : named_in parents states (get_or reads (y % 128) 0) (get_or writes (y % 128) 0) code x y n ≡ told (reason_of read_write b (framed code x y))
-  unfolding named_in
   named_told =
       by_bool (eqb n 0) (λ t. rw t (accepted_told b (framed code x y) n e (eqb-true n 0 t)))
       (λ some_refusal.
@@ -225,7 +230,6 @@ refused_kept b (some r) h = ap (λ (o : Outcome). o.next) (sym (step_refused rea
 
 -- Once a line has ended, whom its answer names can be looked for in the arrays that it left.
 pub told_after : {ok : Bool} {parents states reads writes : List ℕ} {answer : ℕ} {parents' states' reads' writes' : List ℕ} (code x y : ℕ) → LineEnded ok (framed code x y) parents states reads writes answer parents' states' reads' writes' → named_in parents' states' (get_or reads' (y % 128) 0) (get_or writes' (y % 128) 0) code x y answer ≡ told (reason_of read_write (view parents states reads writes) (framed code x y))
-unfolding named_in
 told_after {parents = parents} {states = states} {reads = reads} {writes = writes} {answer = answer} {parents' = parents'} {states' = states'} {reads' = reads'} {writes' = writes'} code x y m =
     by_bool (eqb answer 0)
     (λ t. rw t (accepted_told before q answer e (eqb-true answer 0 t)))

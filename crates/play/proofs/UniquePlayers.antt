@@ -2,14 +2,13 @@
 use mathlib.Core.Path.{◌≡◌, sym, ◌∙◌, ap}
 use mathlib.Core.List.{List, ◌++◌}
 use mathlib.Core.Option.{Option}
-use Prim.Native.Nat.{ℕ, ◌+◌}
+use Prim.Native.Nat.{ℕ}
 use lib.ListN.{take, drop}
 use Rattle.rules.specs.Bench as rules
 use Rattle.rules.specs.Requests.{Request}
 use Rattle.lines.specs.Lines.{answer_line}
 use Rattle.lines.specs.Feeding.{said_by, taken_by}
 use Rattle.naming.specs.Text.{longest, reason_line}
-use Rattle.bench.specs.declared.Bench.{Bench}
 use Rattle.bench.proofs.Unique.{Fits, view_injective}
 use Rattle.play.specs.declared.Player.{Player}
 use Rattle.play.specs.declared.Fed.{Fed}

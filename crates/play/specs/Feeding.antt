@@ -1,5 +1,5 @@
 -- A player's record, read as a trace fed byte by byte; and what feeding a player gives.
-use Rattle.std.specs.Prelude.{Bool, List, ◌++◌, ◌≡◌, ℕ, ◌+◌, length, take, drop, if◌then◌else◌}
+use Rattle.std.specs.Prelude.{List, ◌++◌, ◌≡◌, ℕ, ◌+◌, length, take, drop}
 use Rattle.std.proofs.Math.Option.{Option}
 use Rattle.std.proofs.lemmas.List.Edits.{sets}
 use Rattle.rules.specs.Bench as rules
@@ -30,13 +30,6 @@ FedAs = FedAsBy answer_line 3
 -- with reasons
 abbrev pub ExplainedAs : Player → List ℕ → List ℕ → Fed → List ℕ → Type 0
 ExplainedAs = FedAsBy reason_line longest
-
--- what is written for a line, its reason where the player explains and else its answer, and the longest of it
-abbrev pub say_by : Bool → rules.Bench → Option Request → List ℕ
-say_by telling = if telling then reason_line else answer_line
-
-abbrev pub width_by : Bool → ℕ
-width_by telling = if telling then longest else 3
 
 -- A text has been put at a place of the buffer, and ends at another.
 pub record PutAs (text out : List ℕ) (at : ℕ) (out' : List ℕ) (at' : ℕ) : Type 0 where

@@ -1,17 +1,23 @@
 -- What the player knows of the table that it works on, and what it does to it when a line ends.
-use Rattle.std.specs.Prelude.{Bool, true, List, ◌≡◌, ℕ, length}
+use Rattle.std.specs.Prelude as marks
+use Rattle.std.specs.Prelude.{Bool, true, List, [], ◌≡◌, ℕ, length}
+use Rattle.std.specs.Option.{unwrap_or}
 use Rattle.std.proofs.Math.Option.{Option}
 use Rattle.rules.specs.Requests.{Request}
 use Rattle.views.specs.Arrays.{KnownArrays, LineEnded}
 use Rattle.lines.specs.Feeding.{Feeding, feeding_of}
 use Rattle.steps.specs.Arrays.{read_sets, write_sets}
-use Rattle.index.specs.Tables.{Table, IndexIn}
+use Rattle.index.specs.Tables.{Table, table, IndexIn}
 
 -- These are the words of the read sets and the write sets.
 pub record OwnersOf (reads writes owners : List ℕ) : Type 0 where
   pub long : length owners ≡ 256
   pub of_reads : read_sets owners ≡ reads
   pub of_writes : write_sets owners ≡ writes
+
+-- a table with the index that is kept beside it, if there is one
+abbrev pub table_with : List ℕ → List ℕ → List ℕ → marks.Option (List ℕ) → Table
+table_with parents states owners index = table parents states owners (unwrap_or index [])
 
 -- what the table and a line that has begun stand for
 abbrev pub feeding_in : Table → ℕ → ℕ → Feeding

@@ -1,18 +1,16 @@
--- What is put for a line that has ended, from the arrays that it left.
-use Rattle.std.specs.Prelude.{Bool, true, false, List, ℕ, get_or, if◌then◌else◌}
-use Rattle.lines.specs.Lines.{answer_text}
-use Rattle.naming.specs.declared.Reason.{Reason}
-use Rattle.naming.specs.Blocking.{named_in}
-use Rattle.naming.specs.Text.{reason_text}
-use Rattle.steps.specs.Arrays.{place_of}
-use Rattle.frames.specs.declared.Frame.{Frame}
+-- What is written for a line that has ended, from the arrays that it left.
+use Rattle.std.specs.Prelude.{Bool, List, ℕ, Option}
+use Rattle.std.proofs.Math.Option as math
+use Rattle.rules.specs.Bench as bench
+use Rattle.rules.specs.Requests as rules
+use Rattle.marks.specs.declared.requests.Request.{Request}
+use Rattle.marks.specs.Requests.{meant_by}
+use Rattle.index.specs.Tables.{Table, table}
+use Rattle.play.specs.Feeding.{PutAs}
+use Rattle.play.specs.Known.{feeding_in, LineDone}
 
--- whom the answer to a frame names
-abbrev pub reason_in : List ℕ → List ℕ → List ℕ → Frame → ℕ → Reason
-reason_in parents states owners f answer =
-    named_in parents states (get_or owners (place_of false f.y) 0) (get_or owners (place_of true f.y) 0) f.code f.x f.y answer
-
--- the reason's text where the player explains, and else the answer's
-abbrev pub text_by : Bool → List ℕ → List ℕ → List ℕ → Frame → ℕ → List ℕ
-text_by telling parents states owners f answer =
-    if telling then reason_text (reason_in parents states owners f answer) else answer_text answer
+-- Where a line has ended with an answer and left these arrays, what is said of the bench before it has been put at a place of the buffer, and ends at another.
+abbrev pub PutAfter : (bench.Bench → math.Option rules.Request → List ℕ) → List ℕ → List ℕ → List ℕ → Option Request → ℕ → List ℕ → ℕ → List ℕ → ℕ → Type 0
+PutAfter say parents states owners asked answer out at out' at' =
+    (is_sound : Bool) (before : Table) (index : List ℕ) → LineDone is_sound (meant_by asked) before answer (table parents states owners index) →
+    PutAs (say (feeding_in before 0 0).bench (meant_by asked)) out at out' at'

@@ -1,56 +1,47 @@
 // Feeding the trace player: bytes of lines in, answers out, or answers with whom they name.
-ghost use Rattle.std.specs.Prelude.{◌≡◌};
+ghost use Rattle.std.specs.Prelude.{◌≡◌, ◌<◌};
 ghost use Rattle.lines.specs.Feeding.{taken_by};
-ghost use Rattle.play.specs.Feeding.{FedAs, ExplainedAs, FedAsBy, say_by, width_by};
+ghost use Rattle.play.specs.Feeding.{FedAs, ExplainedAs, FedAsBy};
 
 use crate::owners::{WRITES, owners_of};
 use crate::place::{Place, feed_bytes};
+use crate::telling::{Answers, Reasons, Telling};
 use crate::{Fed, Player};
-use answering::sound;
 use bench::Bench;
 use copies::words_from;
-use index::index_of;
+use frames::Begun;
+use index::Index;
 
 // How many bytes of the input are taken at once: all, or as many as surely have room for what is written for them.
-fn takes(telling: bool, input: &[u8], out: &[u8]) -> usize
-    ensures { result ≡ taken_by (width_by «telling») input.now out.now }
+fn takes<T: Telling>(input: &[u8], out: &[u8]) -> usize
+    ensures { result ≡ taken_by T.WIDTH input.now out.now }
 {
-    let answers = out.len() / 3;
-    let reasons = out.len() / 23;
-    let room = if telling { reasons } else { answers };
-    if input.len() <= room {
-        return input.len();
-    }
-    room
+    input.len().min(out.len() / T::WIDTH)
 }
 
 impl Player {
     // Takes bytes of the input, of any size and cut anywhere, and writes a line for each line that ends in them.
     #[inline(always)] // keeps the stack that the C header states
-    pub(crate) fn play(self, telling: bool, input: &[u8], out: &mut [u8]) -> Fed
-        ensures { FedAsBy (say_by «telling») (width_by «telling») self input.now out.old result out.new }
+    pub fn tell<T: Telling>(self, input: &[u8], out: &mut [u8]) -> Fed
+        ensures { FedAsBy T.say T.WIDTH self input.now out.old result out.new }
     {
-        let used = takes(telling, input, out);
-        let bench = self.bench;
-        let mut parents = bench.parents;
-        let mut states = bench.states;
-        let reads = bench.reads;
-        let writes = bench.writes;
-        let is_sound = sound(&parents, &states, &reads, &writes);
-        let mut owners = owners_of(&reads, &writes);
-        let mut index = [0u64; 257];
-        if is_sound {
-            index = index_of(&parents, &states);
+        let used = takes::<T>(input, out);
+        let mut parents = self.bench.parents;
+        let mut states = self.bench.states;
+        let mut owners = owners_of(&self.bench.reads, &self.bench.writes);
+        let mut index = None;
+        if self.bench.sound() {
+            index = Some(Index::of(&parents, &states));
         }
         let start = Place {
-            count: self.count,
-            value: self.value,
+            begun: Begun {
+                count: self.count,
+                value: self.value,
+            },
             at: 0,
             written: 0,
-            telling: telling,
-            sound: is_sound,
         };
-        let place = feed_bytes(
+        let place = feed_bytes::<T>(
             &mut parents,
             &mut states,
             &mut owners,
@@ -62,15 +53,15 @@ impl Player {
         Fed {
             player: Player {
                 bench: Bench {
-                    parents: parents,
-                    states: states,
-                    reads: words_from(&owners, 0),
-                    writes: words_from(&owners, WRITES),
+                    parents,
+                    states,
+                    reads: words_from(&owners, 0, 0),
+                    writes: words_from(&owners, WRITES, 0),
                 },
-                count: place.count,
-                value: place.value,
+                count: place.begun.count,
+                value: place.begun.value,
             },
-            used: used,
+            used,
             written: place.written,
         }
     }
@@ -81,7 +72,7 @@ impl Player {
     pub fn feed(self, input: &[u8], out: &mut [u8]) -> Fed
         ensures { FedAs self input.now out.old result out.new }
     {
-        self.play(false, input, out)
+        self.tell::<Answers>(input, out)
     }
 
     // The same, with each answer's reason: whom it names, and for 6 how that one owns the instrument and whether it drains. A line takes up to 23 bytes of the
@@ -89,6 +80,6 @@ impl Player {
     pub fn explain(self, input: &[u8], out: &mut [u8]) -> Fed
         ensures { ExplainedAs self input.now out.old result out.new }
     {
-        self.play(true, input, out)
+        self.tell::<Reasons>(input, out)
     }
 }

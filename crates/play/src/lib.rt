@@ -5,7 +5,7 @@ mod feed;
 mod finish;
 mod owners;
 mod place;
-mod put;
+pub mod telling;
 
 ghost use Rattle.std.specs.Prelude.{◌≡◌};
 ghost use Rattle.rules.specs.Bench.{empty};

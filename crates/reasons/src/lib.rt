@@ -13,25 +13,23 @@ ghost use Rattle.naming.specs.Told.{told};
 
 use bench::Bench;
 use frame::answer_of;
-use naming::{Reason, named};
+use marks::requests::Request;
+use naming::{Reason, instrument_of, named};
 
 // Why the request of a frame gets its answer from this record: the frame's code and its two numbers, a spare one ignored. A code that is no request's
 // gets 8.
 pub fn explain(bench: Bench, code: u8, x: u32, y: u32) -> Reason
     ensures { result ≡ told (reason_of read_write (viewed bench) (framed code x y)) }
 {
-    let answer = answer_of(bench, code, x, y);
-    let at = (y % 128) as usize;
-    let readers = bench.reads[at];
-    let writers = bench.writes[at];
+    let asked = Request::framed(code, x, y);
+    let answer = answer_of(bench, asked);
+    let at = instrument_of(asked);
     named(
         &bench.parents,
         &bench.states,
-        readers,
-        writers,
-        code,
-        x,
-        y,
+        bench.reads[at],
+        bench.writes[at],
+        asked,
         answer,
     )
 }

@@ -2,18 +2,18 @@
 use crate::unsound::kept;
 use bench::Bench;
 use std::io;
-use trials::same::same;
 use trials::session::played;
 use trials::show::{fact, last_fact};
 
 // All 64 numbers running, each under the next one up, and 63 a top.
 fn longest_chain() -> Bench {
-    let mut b = Bench::empty();
-    for k in 0..63usize {
-        b.states[k] = 1;
-        b.parents[k] = (k % 64) as u8 + 2;
+    let mut b = Bench {
+        states: [1; 64],
+        ..Bench::empty()
+    };
+    for (parent, above) in b.parents.iter_mut().zip(2..=64u8) {
+        *parent = above;
     }
-    b.states[63] = 1;
     b
 }
 
@@ -23,9 +23,9 @@ fn chain_of_64(rt: &impl Print) -> io::Result<()> {
     let written = played(rt, b, b"w0,5")?;
     fact(rt, b.is_sound())?;
     let b = played(rt, written, b" w1,5 c1 c0 w1,5 a63")?;
-    fact(rt, (b.states[0] == 66) & (b.states[63] == 66))?;
+    fact(rt, b.states[0] == 66 && b.states[63] == 66)?;
     let b = played(rt, b, b" q63,5")?;
-    last_fact(rt, same(b, Bench::empty()))?;
+    last_fact(rt, b == Bench::empty())?;
     Ok(())
 }
 

@@ -2,7 +2,6 @@
 use crate::unsound::{busy, kept};
 use bench::Bench;
 use std::io;
-use trials::same::same;
 use trials::session::{played, session};
 use trials::show::{fact, last_fact};
 
@@ -28,15 +27,15 @@ fn asking_again(rt: &impl Print) -> io::Result<()> {
     fact(rt, kept(rt, written, b" w1,5")?)?;
     let read = played(rt, written, b" r1,5")?;
     fact(rt, kept(rt, read, b" r1,5")?)?;
-    last_fact(rt, (read.reads[5] == 2) & (read.writes[5] == 2))?;
+    last_fact(rt, read.reads[5] == 2 && read.writes[5] == 2)?;
     Ok(())
 }
 
 // A sub's commit changes no owner set; its number becomes committed.
 fn commit_of_a_sub(rt: &impl Print) -> io::Result<()> {
     let b = played(rt, Bench::empty(), b"t1 s2,1 w2,5 r2,6 c2")?;
-    fact(rt, (b.writes[5] == 4) & (b.reads[6] == 4))?;
-    last_fact(rt, (b.states[2] == 2) & (b.parents[2] == 2))?;
+    fact(rt, b.writes[5] == 4 && b.reads[6] == 4)?;
+    last_fact(rt, b.states[2] == 2 && b.parents[2] == 2)?;
     Ok(())
 }
 
@@ -44,7 +43,7 @@ fn commit_of_a_sub(rt: &impl Print) -> io::Result<()> {
 // none of the locks of the one before.
 fn commit_of_a_top(rt: &impl Print) -> io::Result<()> {
     let b = played(rt, Bench::empty(), b"t1 s2,1 s3,2 w3,5 r3,6 c3 c2 c1")?;
-    fact(rt, same(b, Bench::empty()))?;
+    fact(rt, b == Bench::empty())?;
     played(rt, b, b" t3 t9 w9,5 w9,6\n")?;
     Ok(())
 }

@@ -2,7 +2,6 @@
 // the answers of the seven requests, then whether the record is sound, then whether all seven handed it back as it came.
 use bench::Bench;
 use std::io;
-use trials::same::same;
 use trials::session::played;
 use trials::show::{fact, last_fact};
 
@@ -34,33 +33,33 @@ fn with_sets(mut b: Bench, i: usize, reads: u64, writes: u64) -> Bench {
 
 // Whether the record came back as it was from a request, whose answer is written.
 pub(crate) fn kept(rt: &impl Print, b: Bench, text: &[u8]) -> io::Result<bool> {
-    Ok(same(b, played(rt, b, text)?))
+    Ok(played(rt, b, text)? == b)
 }
 
-// Writes what seven requests have shown of a record.
-fn shown(rt: &impl Print, b: Bench, kept: bool) -> io::Result<()> {
+// Requests of the same record, with a stroke between, and what they show of it.
+fn all_kept(rt: &impl Print, b: Bench, requests: &str) -> io::Result<()> {
+    let mut same = true;
+    for request in requests.split('/') {
+        same &= kept(rt, b, request.as_bytes())?;
+    }
     fact(rt, b.is_sound())?;
-    last_fact(rt, kept)?;
+    last_fact(rt, same)?;
     Ok(())
 }
 
 // The seven requests, each of the same record. Where 1 and 2 are as in `busy`, one that drains under 4 stands in the sets of instrument 8, and the record is
 // sound, all are accepted.
 fn seven(rt: &impl Print, b: Bench) -> io::Result<()> {
-    let opens = kept(rt, b, b"t20")? & kept(rt, b, b" s21,2")?;
-    let asks = kept(rt, b, b" r2,7")? & kept(rt, b, b" w2,7")?;
-    let ends = kept(rt, b, b" c2")? & kept(rt, b, b" a1")? & kept(rt, b, b" q4,8")?;
-    shown(rt, b, opens & asks & ends)
+    all_kept(rt, b, "t20/ s21,2/ r2,7/ w2,7/ c2/ a1/ q4,8")
 }
 
 // The seven requests with numbers that would get 1: 7 comes before it.
 fn seven_far(rt: &impl Print, b: Bench) -> io::Result<()> {
-    let opens = kept(rt, b, b"t64")? & kept(rt, b, b" s4294967295,64")?;
-    let asks = kept(rt, b, b" r64,128")? & kept(rt, b, b" w4294967295,4294967295")?;
-    let ends = kept(rt, b, b" c64")?
-        & kept(rt, b, b" a4294967295")?
-        & kept(rt, b, b" q64,4294967295")?;
-    shown(rt, b, opens & asks & ends)
+    all_kept(
+        rt,
+        b,
+        "t64/ s4294967295,64/ r64,128/ w4294967295,4294967295/ c64/ a4294967295/ q64,4294967295",
+    )
 }
 
 // Rules 1 and 2, and bytes that mean nothing.

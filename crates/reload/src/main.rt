@@ -2,56 +2,49 @@
 // of the loaded bench saved again. Where a read fails nothing is written: what was not read whole is not called good.
 #![tactic(auto)]
 
+use marks::answers::{Refusal, number};
 use std::rt::Runtime;
+use streams::{Failed, Mark, read_full, write_whole};
 
 // Writes the answer's line.
-fn show<R: Runtime>(rt: &R, answer: u8) -> bool {
+fn show<R: Runtime>(rt: &R, answer: u8) -> Result<(), Failed> {
     let line = [
         digits::character(answer / 16),
         digits::character(answer),
         b'\n',
     ];
-    streams::write_whole(rt, &line)
+    write_whole(rt, &line)
 }
 
 // A refused text: its answer alone.
-fn refuse<R: Runtime>(rt: &R, answer: u8) {
-    if show(rt, answer) {
-        streams::refused(rt);
-    } else {
-        streams::failed(rt);
-    }
+fn refuse<R: Runtime>(rt: &R, answer: u8) -> Result<Mark, Failed> {
+    show(rt, answer)?;
+    Ok(Mark::Refused)
 }
 
 // Loads a text that was read whole, and tells what came of it.
-fn reload<R: Runtime>(rt: &R, text: &[u8]) {
+fn reload<R: Runtime>(rt: &R, text: &[u8]) -> Result<Mark, Failed> {
     let loaded = saved::load(text);
-    if loaded.answer != 0 {
-        refuse(rt, loaded.answer);
-        return;
+    if loaded.answer != number(Ok(())) {
+        return refuse(rt, loaded.answer);
     }
     let mut buffer = [0u8; 5312];
     let reply = saved::save(loaded.bench, &mut buffer);
-    let count = reply.count;
-    if show(rt, 0) && streams::write_whole(rt, &buffer[..count]) {
-        streams::done(rt);
-    } else {
-        streams::failed(rt);
+    show(rt, number(Ok(())))?;
+    write_whole(rt, &buffer[..reply.count])?;
+    Ok(Mark::Done)
+}
+
+// Reads the text and reloads it. One byte more than the longest text has: input that fills it is longer than any text.
+fn answer<R: Runtime>(rt: &R) -> Result<Mark, Failed> {
+    let mut text = [0u8; 5313];
+    let read = read_full(rt, &mut text)?;
+    if read == text.len() {
+        return refuse(rt, Refusal::Malformed as u8);
     }
+    reload(rt, &text[..read])
 }
 
 fn main(rt: HostRuntime) {
-    // One byte more than the longest text has: input that fills it is longer than any text.
-    let mut text = [0u8; 5313];
-    let got = streams::read_full(&rt, &mut text);
-    let read = got.count;
-    if got.failed {
-        streams::failed(&rt);
-        return;
-    }
-    if read > 5312 {
-        refuse(&rt, 8);
-        return;
-    }
-    reload(&rt, &text[..read]);
+    streams::end(&rt, answer(&rt));
 }

@@ -5,14 +5,11 @@ pub mod quiet;
 
 ghost use Rattle.std.specs.Prelude.{◌≡◌, ℕ};
 ghost use Rattle.sets.specs.Sets.{member};
-ghost use Rattle.rows.specs.Rows.{open_top_row, open_sub_row, commit_row, abort_row, ask_row, busy_in, line_for, held_for, open_answer, end_answer};
+ghost use Rattle.marks.specs.Answers.{answer_number};
+ghost use Rattle.rows.specs.Rows.{open_top_row, open_sub_row, commit_row, abort_row, ask_row, busy_in, line_for, held_for};
 
 use heirs::held::all_held;
-use marks::answers::{
-    ACCEPTED, HAS_RUNNING_CHILD, MALFORMED, NO_SUCH_ACTION, NO_SUCH_INSTRUMENT, NOT_FREE,
-    NOT_GRANTED, NOT_RUNNING,
-};
-use marks::codes::{ABORT, COMMIT, OPEN_SUB, OPEN_TOP};
+use marks::answers::{Answer, Refusal};
 use marks::states::{FREE, RUNNING};
 use tree::children::running_child;
 use tree::line_of;
@@ -23,64 +20,64 @@ pub const ACTIONS: u32 = 64;
 pub const INSTRUMENTS: u32 = 128;
 
 // The rows of `open top n`.
-pub fn open_top_row(states: &[u8; 64], n: u32) -> u8
-    ensures { result ≡ open_top_row states.now n }
+pub fn open_top_row(states: &[u8; 64], n: u32) -> Answer
+    ensures { answer_number result ≡ open_top_row states.now n }
 {
     if ACTIONS <= n {
-        return NO_SUCH_ACTION;
+        return Err(Refusal::NoSuchAction);
     }
     if states[n as usize] != FREE {
-        return NOT_FREE;
+        return Err(Refusal::NotFree);
     }
-    ACCEPTED
+    Ok(())
 }
 
 // The rows of `open sub n under p`.
-pub fn open_sub_row(states: &[u8; 64], n: u32, p: u32) -> u8
-    ensures { result ≡ open_sub_row states.now n p }
+pub fn open_sub_row(states: &[u8; 64], n: u32, p: u32) -> Answer
+    ensures { answer_number result ≡ open_sub_row states.now n p }
 {
     if ACTIONS <= n {
-        return NO_SUCH_ACTION;
+        return Err(Refusal::NoSuchAction);
     }
     if ACTIONS <= p {
-        return NO_SUCH_ACTION;
+        return Err(Refusal::NoSuchAction);
     }
     if states[n as usize] != FREE {
-        return NOT_FREE;
+        return Err(Refusal::NotFree);
     }
     if states[p as usize] != RUNNING {
-        return NOT_RUNNING;
+        return Err(Refusal::NotRunning);
     }
-    ACCEPTED
+    Ok(())
 }
 
 // The rows of `commit a`, where `busy` says whether a has a running child.
-pub fn commit_row(states: &[u8; 64], busy: bool, a: u32) -> u8
-    ensures { result ≡ commit_row states.now «busy» a }
+pub fn commit_row(states: &[u8; 64], busy: bool, a: u32) -> Answer
+    ensures { answer_number result ≡ commit_row states.now «busy» a }
 {
     if ACTIONS <= a {
-        return NO_SUCH_ACTION;
+        return Err(Refusal::NoSuchAction);
     }
     if states[a as usize] != RUNNING {
-        return NOT_RUNNING;
+        return Err(Refusal::NotRunning);
     }
     if busy {
-        return HAS_RUNNING_CHILD;
+        return Err(Refusal::HasRunningChild);
     }
-    ACCEPTED
+    Ok(())
 }
 
 // The rows of `abort a`.
-pub fn abort_row(states: &[u8; 64], a: u32) -> u8
-    ensures { result ≡ abort_row states.now a }
+pub fn abort_row(states: &[u8; 64], a: u32) -> Answer
+    ensures { answer_number result ≡ abort_row states.now a }
 {
     if ACTIONS <= a {
-        return NO_SUCH_ACTION;
+        return Err(Refusal::NoSuchAction);
     }
     if states[a as usize] != RUNNING {
-        return NOT_RUNNING;
+        return Err(Refusal::NotRunning);
     }
-    ACCEPTED
+    Ok(())
 }
 
 // The line that is handed over; where it is empty, it is gathered going up from a.
@@ -114,23 +111,20 @@ pub fn ask_row<'a>(
     owners: u64,
     a: u32,
     i: u32,
-) -> u8
-    ensures { result ≡ ask_row states.now «busy» (held_for parents.now states.now line owners a) a i }
+) -> Answer
+    ensures { answer_number result ≡ ask_row states.now «busy» (held_for parents.now states.now line owners a) a i }
 {
     if ACTIONS <= a {
-        return NO_SUCH_ACTION;
+        return Err(Refusal::NoSuchAction);
     }
     if INSTRUMENTS <= i {
-        return NO_SUCH_INSTRUMENT;
+        return Err(Refusal::NoSuchInstrument);
     }
-    let first = commit_row(states, busy, a);
-    if first != ACCEPTED {
-        return first;
-    }
+    commit_row(states, busy, a)?;
     if !held(parents, states, line, owners, a as usize) {
-        return NOT_GRANTED;
+        return Err(Refusal::NotGranted);
     }
-    ACCEPTED
+    Ok(())
 }
 
 // The same, with what they have to know of a looked up in the arrays.
@@ -140,36 +134,10 @@ pub fn looked_up_ask_row<'a>(
     owners: u64,
     a: u32,
     i: u32,
-) -> u8
-    ensures { result ≡ ask_row states.now (busy_in parents.now states.now a)
+) -> Answer
+    ensures { answer_number result ≡ ask_row states.now (busy_in parents.now states.now a)
         (held_for parents.now states.now 0 owners a) a i }
 {
     let busy = running_child(parents, states, (a % ACTIONS) as u8 + 1);
     ask_row(parents, states, busy, 0, owners, a, i)
-}
-
-// The rows of an open, by the frame's code; any code but those of the two opens is malformed.
-pub fn open_row(states: &[u8; 64], code: u8, x: u32, y: u32) -> u8
-    ensures { result ≡ open_answer code x y states.now }
-{
-    if code == OPEN_TOP {
-        return open_top_row(states, x);
-    }
-    if code == OPEN_SUB {
-        return open_sub_row(states, x, y);
-    }
-    MALFORMED
-}
-
-// The rows of a commit or an abort, by the frame's code; any other code is malformed.
-pub fn end_row(states: &[u8; 64], busy: bool, code: u8, x: u32) -> u8
-    ensures { result ≡ end_answer code «busy» x states.now }
-{
-    if code == COMMIT {
-        return commit_row(states, busy, x);
-    }
-    if code == ABORT {
-        return abort_row(states, x);
-    }
-    MALFORMED
 }

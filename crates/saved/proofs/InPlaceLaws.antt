@@ -1,13 +1,12 @@
 -- The saved form of a lent image: what is told of it, written from it and read into it is that of its record. Assumes nothing.
 use mathlib.Core.Path.{◌≡◌, refl, sym, ◌∙◌, ap}
-use mathlib.Core.Bool.{Bool, true, false, not, ◌&&◌}
+use mathlib.Core.Bool.{Bool, true, false, not}
 use mathlib.Core.List.{List, ◌++◌}
 use mathlib.Core.Option.{none, some}
-use Prim.Native.Nat.{ℕ, ◌+◌}
+use Prim.Native.Nat.{ℕ}
 use native.Mathlib.Omega.{arith}
 use borrow.Author.Tests.{eq-eqb, not-true, not-false}
-use lib.Dec.{eqb}
-use lib.ListN.{length, take, drop, replicate, length-append, length-replicate, replicate-append-replicate, take-append-drop}
+use lib.ListN.{length, take, drop, replicate, length-append, replicate-append-replicate, take-append-drop}
 use lib.Seq.{take_at, drop_at}
 use Rattle.rules.specs.Sound.{sound}
 use Rattle.rules.specs.ReadWrite.{read_write}
@@ -24,8 +23,7 @@ use Rattle.forms.proofs.RoundTrips.{said_shaped}
 use Rattle.loading.specs.Halves.{halves, ReadInto}
 use Rattle.saving.specs.declared.Saved.{Saved}
 use Rattle.saving.specs.Stored.{Stores}
-use Rattle.saved.specs.declared.Loaded.{Loaded}
-use Rattle.saved.specs.Saved.{saved_as, sized_as, buffer_after, if_sound, loaded_from, load_of}
+use Rattle.saved.specs.Saved.{saved_as, buffer_after, if_sound, loaded_from, load_of}
 use Rattle.saved.specs.InPlace.{size_of_image, SavesImage, ReadFrom, LoadsInto}
 use Rattle.saved.proofs.SaidByText.{left_over, read_whole}
 use Rattle.saved.proofs.SaveAndLoad.{refused_zeros}
@@ -64,6 +62,13 @@ module _ (actions owners : List ℕ) where
 
     pub sound_long : (length actions ≡ 128) × (length owners ≡ 256)
     sound_long = image_long actions owners sound_is_image
+
+    -- as two facts, which the bounds of its parts follow from
+    pub sound_bytes : length actions ≡ 128
+    sound_bytes = sound_long.0
+
+    pub sound_words : length owners ≡ 256
+    sound_words = sound_long.1
 
     -- the four parts of the image that are lent
     abbrev parts : Bench

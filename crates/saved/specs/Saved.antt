@@ -1,5 +1,5 @@
 -- Save and load (document 01, "Saved form" and answers 7, 8 and 9).
-use Rattle.std.specs.Prelude.{Bool, List, ◌≡◌, ℕ, length, if◌then◌else◌}
+use Rattle.std.specs.Prelude.{List, ◌≡◌, ℕ, length, if◌then◌else◌}
 use Rattle.std.proofs.Math.Option.{Option, none, some}
 use Rattle.rules.specs.Sound.{sound}
 use Rattle.rules.specs.ReadWrite.{read_write}

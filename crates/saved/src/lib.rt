@@ -9,10 +9,10 @@ ghost use Rattle.saved.specs.Saved.{Saves, sized_as, Loads};
 use crate::in_place::load_image;
 use bench::Bench;
 use image;
-use marks::answers::{ACCEPTED, UNSOUND};
+use marks::answers::{ACCEPTED, Refusal, number};
 use saving::Saved;
 
-// What a load hands back: the bench and the answer's number.
+// What a load hands back, as document 01 shapes it: the bench and the answer's number.
 #[derive(Clone, Copy)]
 pub struct Loaded {
     pub bench: Bench,
@@ -27,7 +27,7 @@ pub fn text_size(b: Bench) -> Saved
     if !known {
         return Saved {
             count: 0,
-            answer: UNSOUND,
+            answer: Refusal::Unsound as u8,
         };
     }
     Saved {
@@ -43,7 +43,7 @@ pub fn save(b: Bench, out: &mut [u8]) -> Saved
     if !b.is_sound() {
         return Saved {
             count: 0,
-            answer: UNSOUND,
+            answer: Refusal::Unsound as u8,
         };
     }
     saving::store_text(out, &b.parents, &b.states, &b.reads, &b.writes)
@@ -59,6 +59,6 @@ pub fn load(text: &[u8]) -> Loaded
     let bench = image::bench_of(&actions, &owners);
     Loaded {
         bench: bench,
-        answer: answer,
+        answer: number(answer),
     }
 }

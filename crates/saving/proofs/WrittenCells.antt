@@ -1,18 +1,19 @@
 -- What the numbers or the instruments add to the text, written and counted one at a time.
-use Rattle.std.specs.Prelude.{if◌then◌else◌}
+use Rattle.std.specs.Prelude.{if◌then◌else◌, Some, None, is_some, unwrap_or}
 use mathlib.Core.Path.{◌≡◌, refl, sym, ◌∙◌, ap}
-use mathlib.Core.Bool.{Bool, true, false}
+use mathlib.Core.Bool.{Bool, true, false, not}
 use mathlib.Core.List.{List, [], ◌++◌}
-use Prim.Native.Nat.{ℕ, suc, ◌+◌, ◌-◌, ◌*◌, ◌<◌, ◌≤◌}
+use Prim.Native.Nat.{ℕ, zero, suc, ◌+◌, ◌-◌, ◌*◌, ◌<◌, ◌≤◌}
 use native.Mathlib.Nat.{add-zero, suc-mul}
 use native.Mathlib.Numerals.{add-one}
 use native.Mathlib.Omega.{arith}
 use lib.ListN.{length, get_or, length-append}
 use lib.Seq.{sets, length-sets}
+use borrow.Author.Tests.{not-true, not-false}
 use Rattle.rules.proofs.Tests.{by_bool}
-use Rattle.forms.specs.Kinds.{frame_size, Kind}
-use Rattle.forms.specs.Text.{frame_of, cell_of, cells_from}
-use Rattle.saving.specs.Written.{Written}
+use Rattle.forms.specs.Kinds.{FrameShape, frame_size, Kind}
+use Rattle.forms.specs.Text.{frame, frame_of, cell_of, cells_from}
+use Rattle.saving.specs.Written.{Written, values_of}
 use Rattle.saving.proofs.WrittenFrames.{sets_append}
 use Rattle.forms.proofs.FrameKinds.{frame_length}
 
@@ -34,35 +35,38 @@ module _ (cell : ℕ → List ℕ) (n : ℕ) where
 abbrev pub Sized : (ℕ → List ℕ) → (ℕ → Bool) → ℕ → Type 0
 Sized cell bare size = (k : ℕ) → length (cell k) ≡ (if bare k then 0 else size)
 
+-- cells that are bare at the same numbers are as long as each other
+module _ (cell cell' : ℕ → List ℕ) (bare : ℕ → Bool) (size : ℕ) where
+  pub same_long : Sized cell bare size → Sized cell' bare size → (n k : ℕ) → length (cells_from cell n k) ≡ length (cells_from cell' n k)
+  unfolding cells_from
+  same_long a b zero k = refl
+  same_long a b (suc n) k =
+      let rest = same_long a b n (suc k) in rw (length-append, length-append, a k, b k) (ap (λ m. (if bare k then 0 else size) + m) rest)
+
 -- The cells below k of n are counted: their length and that of the others make that of all.
-pub record Counted (bare : ℕ → Bool) (size n k total : ℕ) : Type 0 where
+pub record Counted (cell : ℕ → List ℕ) (size n k total : ℕ) : Type 0 where
   pub passed : k ≤ n
   pub few : total ≤ k * size
-  pub sum : (cell : ℕ → List ℕ) → Sized cell bare size → total + length (cells_from cell (n - k) k) ≡ length (cells_from cell n 0)
+  pub sum : total + length (cells_from cell (n - k) k) ≡ length (cells_from cell n 0)
 
-module _ {bare : ℕ → Bool} {size n : ℕ} where
-  pub none_counted : Counted bare size n 0 0
-  none_counted =
-      let e : n - 0 ≡ n = omega arith in record { passed = omega arith; few = omega arith; sum = λ cell sized. rw e (omega arith) }
+module _ {cell : ℕ → List ℕ} {size n : ℕ} where
+  pub none_counted : Counted cell size n 0 0
+  none_counted = let e : n - 0 ≡ n = omega arith in record { passed = omega arith; few = omega arith; sum = rw e (omega arith) }
 
-  module _ {k total : ℕ} (h : Counted bare size n k total) where
-    pub one_counted : {more : ℕ} → k < n → (more ≡ (if bare k then 0 else size)) × (more ≤ size) → Counted bare size n (k + 1) (total + more)
-    one_counted {more} l said =
+  module _ {k total : ℕ} (h : Counted cell size n k total) where
+    pub one_counted : {more : ℕ} → k < n → more ≤ size → more ≡ length (cell k) → Counted cell size n (k + 1) (total + more)
+    one_counted {more} l short here =
         let few : total ≤ k * size = h.few in
-        record {
-          passed = omega arith;
-          few = rw (add-one, suc-mul) (omega arith);
-          sum = λ cell sized.
-              let before = h.sum cell sized in
-              let here : length (cell k) ≡ more = sized k ∙ sym said.0 in
-              let split = simp length-append at (ap length (cells_next cell n k l)) in omega arith;
-        }
+        let sum : total + length (cells_from cell (n - k) k) ≡ length (cells_from cell n 0) = h.sum in
+        let split = simp length-append at (ap length (cells_next cell n k l)) in
+        record { passed = omega arith; few = rw (add-one, suc-mul) (omega arith); sum = omega arith }
 
     -- all cells are counted
-    pub all_counted : n ≤ k → (total ≤ n * size) × ((cell : ℕ → List ℕ) → Sized cell bare size → total ≡ length (cells_from cell n 0))
+    pub all_counted : n ≤ k → (total ≤ n * size) × (total ≡ length (cells_from cell n 0))
     all_counted l =
+        let passed : k ≤ n = h.passed in
         let e : k ≡ n = omega arith in
-        (rw e at h.few, λ cell sized. let sum = rw (cells_done cell n k e) at (h.sum cell sized) in omega arith)
+        (rw e at h.few, (let sum = rw (cells_done cell n k e) at h.sum in omega arith))
 
 -- ---- cells, written
 
@@ -133,3 +137,27 @@ module _ (K : Kind) (xs ys : List ℕ) where
       -- where there is room for the cell, there is room for its frame
       pub frame_room : (at room : ℕ) → at + length (cell_of K xs ys k) ≤ room → at + frame_size K.shape ≤ room
       frame_room at room h = rw (cell_sized k, used) at h
+
+-- ---- the two values of a frame
+
+module _ (K : Kind) (xs ys : List ℕ) (k : ℕ) where
+  -- there are some where the cell isn't bare
+  pub some_used : is_some (values_of K xs ys k) ≡ not (bare_at K xs ys k)
+  some_used = by_bool (bare_at K xs ys k) (λ e. rw e) (λ e. rw e)
+
+  pub none_bare : values_of K xs ys k ≡ None → bare_at K xs ys k ≡ true
+  none_bare h = not-false (bare_at K xs ys k) (sym some_used ∙ ap is_some h)
+
+  pub values_used : {v : ℕ × ℕ} → values_of K xs ys k ≡ Some v → bare_at K xs ys k ≡ false
+  values_used h = not-true (bare_at K xs ys k) (sym some_used ∙ ap is_some h)
+
+  -- and they are those of the cell's frame, of whatever shape that is the kind's
+  module _ {v : ℕ × ℕ} (said : values_of K xs ys k ≡ Some v) (f : FrameShape) (shaped : f ≡ K.shape) where
+    pub values_room : (at room : ℕ) → at + length (cell_of K xs ys k) ≤ room → at + frame_size f ≤ room
+    values_room at room h = rw shaped (frame_room K xs ys k (values_used said) at room h)
+
+    pub values_written : {l after : List ℕ} {at next : ℕ} → Written l at (frame f k v.0 v.1) after next → Written l at (cell_of K xs ys k) after next
+    values_written {l} {after} {at} {next} w =
+        let same : frame f k v.0 v.1 ≡ frame_of K k (get_or xs k 0) (get_or ys k 0) =
+        rw shaped (rw (values_used said) at (ap (λ o. let u = unwrap_or o (0, 0) in frame K.shape k u.0 u.1) (sym said))) in
+        frame_written K xs ys k (values_used said) (rw same at w)

@@ -1,7 +1,7 @@
 -- The characters of a number's digits, and a number written digit by digit, the highest first.
 use mathlib.Core.Path.{◌≡◌, refl}
 use mathlib.Core.List.{List}
-use Prim.Native.Nat.{ℕ, zero, suc, ◌+◌, ◌-◌, ◌*◌, ◌/◌, ◌%◌, ◌^◌}
+use Prim.Native.Nat.{ℕ, zero, suc, ◌+◌, ◌*◌, ◌/◌, ◌%◌, ◌^◌}
 use native.Mathlib.Nat.{pow-suc}
 use native.Mathlib.Numerals.{add-one}
 use native.Mathlib.Omega.{arith}
@@ -16,11 +16,10 @@ shift_digits zero = refl
 shift_digits (suc m) = let e : 4 * suc m ≡ 4 * m + 4 = omega arith in rw (e, pow-add 2 (4 * m) 4, shift_digits m, pow-suc 16 m)
 
 -- the highest of the digits left is written, and the others are left behind it
-pub digit_more : (out : List ℕ) (place left x : ℕ) → (left ≡ 0 → ⊥)
-    → sets (set out place (hex_digit (x / 16 ^ (left - 1) % 16))) (place + 1) (hex_of (left - 1) x) ≡ sets out place (hex_of left x)
+pub digit_more : (out : List ℕ) (place left x : ℕ)
+    → sets (set out place (hex_digit (x / 16 ^ left % 16))) (place + 1) (hex_of left x) ≡ sets out place (hex_of (suc left) x)
 unfolding hex_of
-digit_more out place zero x some = absurd (some refl)
-digit_more out place (suc m) x some = let e : suc m - 1 ≡ m = omega arith in rw (e, add-one)
+digit_more out place left x = rw add-one
 
 pub digits_done : (out : List ℕ) (place x : ℕ) → sets out place (hex_of 0 x) ≡ out
 unfolding hex_of

@@ -8,14 +8,21 @@ use borrow.Author.Tests.{lt-ltb, le-ltb}
 use lib.ListN.{length, length-append}
 use lib.Seq.{sets, length-sets, sets-eq}
 use Rattle.bench.specs.declared.Bench.{Bench}
-use Rattle.forms.specs.Text.{actions_text, instruments_text, text_of}
+use Rattle.forms.specs.Kinds.{action}
+use Rattle.forms.specs.Text.{cell_of, cells_from, actions_text, instruments_text, text_of}
 use Rattle.saving.specs.Written.{Written}
 use Rattle.saving.specs.Stored.{Stores}
 use Rattle.forms.proofs.RoundTrips.{text_rows}
 use Rattle.saving.proofs.WrittenFrames.{sets_append}
+use Rattle.saving.proofs.WrittenCells.{bare_at, cell_sized, same_long}
 
 pub text_length : (b : Bench) → length (text_of b) ≡ length (actions_text b) + length (instruments_text b)
 text_length b = rw (text_rows b) (length-append (actions_text b) (instruments_text b))
+
+-- parents have no say in how long what the numbers add is
+pub parents_silent : (parents parents' states : List ℕ) → length (cells_from (cell_of action parents states) 64 0) ≡ length (cells_from (cell_of action parents' states) 64 0)
+parents_silent parents parents' states =
+    same_long (cell_of action parents states) (cell_of action parents' states) (bare_at action parents states) 9 (cell_sized action parents states) (cell_sized action parents' states) 64 0
 
 module _ (b : Bench) where
   -- what storing a text is, where the buffer is too short

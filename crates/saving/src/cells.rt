@@ -1,24 +1,80 @@
-// Digits, frames, and what each number and each instrument adds to a text, written into a lent buffer.
-ghost use Rattle.std.specs.Prelude.{◌≡◌, ◌+◌, ◌/◌, ◌%◌, ◌^◌, ◌<◌, ◌≤◌, length};
+// Digits, frames, and what each number and each instrument adds to a text: how long it is, and written into a lent buffer.
+ghost use Rattle.std.specs.Prelude.{◌≡◌, List, ℕ, ◌+◌, ◌*◌, ◌/◌, ◌%◌, ◌^◌, ◌<◌, ◌≤◌, length};
 ghost use Rattle.std.proofs.lemmas.List.Edits.{sets};
-ghost use Rattle.forms.specs.Kinds.{even_shape, frame_size, state_digits, parent_digits, action, instrument};
+ghost use Rattle.forms.specs.Kinds.{even_shape, frame_size, state_digits, parent_digits, action, instrument, Kind};
 ghost use Rattle.forms.specs.Text.{hex_digit, hex_of, frame, cell_of, cells_from};
-ghost use Rattle.saving.specs.Written.{Written};
+ghost use Rattle.saving.specs.Written.{Written, values_of};
 
-use crate::elements::{byte_at, word_at};
-use forms::{ACTION_CODE, ACTION_DIGITS, INSTRUMENT_CODE, INSTRUMENT_DIGITS};
-use marks::bytes::wide;
-use marks::states::DRAINING;
+use forms::{Action, FrameKind, Instrument};
+use marks::states::{DRAINING, FREE};
+
+// What adds to a text: numbers or instruments, each of which has a frame of one kind or none.
+pub(crate) trait Cells {
+    type Kind: FrameKind;
+
+    ghost first: { Self → List ℕ };
+
+    ghost second: { Self → List ℕ };
+
+    // The two values of the frame of number k; none where it has no frame.
+    fn values(&self, k: usize) -> Option<(u64, u64)>
+        ensures { result ≡ values_of Self.Kind.kind (first self.now) (second self.now) k };
+}
+
+// The numbers: a parent and a state of each.
+#[derive(Clone, Copy)]
+pub(crate) struct Numbers<'a> {
+    pub(crate) parents: &'a [u8],
+    pub(crate) states: &'a [u8],
+}
+
+// The instruments: a read set and a write set of each.
+#[derive(Clone, Copy)]
+pub(crate) struct Instruments<'a> {
+    pub(crate) reads: &'a [u64],
+    pub(crate) writes: &'a [u64],
+}
+
+impl<'a> Cells for Numbers<'a> {
+    type Kind = Action;
+
+    ghost first = { λ s. s.parents.now };
+
+    ghost second = { λ s. s.states.now };
+
+    fn values(&self, k: usize) -> Option<(u64, u64)> {
+        let state = self.states.get(k).copied().unwrap_or(FREE);
+        if state == FREE {
+            return None;
+        }
+        let parent = self.parents.get(k).copied().unwrap_or(0);
+        Some((state_digits(state), parent_digits(parent, state)))
+    }
+}
+
+impl<'a> Cells for Instruments<'a> {
+    type Kind = Instrument;
+
+    ghost first = { λ s. s.reads.now };
+
+    ghost second = { λ s. s.writes.now };
+
+    fn values(&self, k: usize) -> Option<(u64, u64)> {
+        let read = self.reads.get(k).copied().unwrap_or(0);
+        let written = self.writes.get(k).copied().unwrap_or(0);
+        if (read == 0) & (written == 0) {
+            None
+        } else {
+            Some((read, written))
+        }
+    }
+}
 
 // ss, from a state's byte: running, committed or draining.
 fn state_digits(state: u8) -> u64
     ensures { result ≡ state_digits state }
 {
-    if state < DRAINING {
-        wide(state) as u64
-    } else {
-        3
-    }
+    u64::from(state.min(DRAINING))
 }
 
 // pp, from both bytes: of a number that drains the aborted action, else the parent, or ff for a top action.
@@ -29,10 +85,10 @@ fn parent_digits(parent: u8, state: u8) -> u64
         if parent == 0 {
             return 0xff;
         }
-        return wide(parent) as u64 - 1;
+        return u64::from(parent) - 1;
     }
     if state < 67 {
-        return wide(state) as u64 - 3;
+        return u64::from(state) - 3;
     }
     0xff
 }
@@ -50,12 +106,8 @@ fn put_number(out: &mut [u8], at: usize, n: usize, x: u64)
     requires { (n ≤ 16) × (at + n ≤ length out.old) }
     ensures { out.new ≡ sets out.old at (hex_of n x) }
 {
-    let mut place = at;
-    let mut left = n;
-    while left != 0 {
-        left -= 1;
-        out[place] = digit(x, left);
-        place += 1;
+    for k in 0..n {
+        out[at + k] = digit(x, n - 1 - k);
     }
 }
 
@@ -82,82 +134,55 @@ fn put_frame(
 }
 
 // Writes what number k adds to the text, and gives the place behind it.
-fn write_action<'a>(
-    out: &mut [u8],
-    at: usize,
-    parents: &'a [u8],
-    states: &'a [u8],
-    k: usize,
-) -> usize
-    requires { at + length (cell_of action parents.now states.now k) ≤ length out.old }
-    ensures { Written out.old at (cell_of action parents.now states.now k) out.new result }
+fn write_cell<C: Cells>(out: &mut [u8], at: usize, cells: &C, k: usize) -> usize
+    requires { at + length (cell_of C.Kind.kind (C.first cells.now) (C.second cells.now) k) ≤ length out.old }
+    ensures { Written out.old at (cell_of C.Kind.kind (C.first cells.now) (C.second cells.now) k) out.new result }
 {
-    let state = byte_at(states, k);
-    if state == 0 {
-        return at;
+    match cells.values(k) {
+        Some((first, second)) => put_frame(
+            out,
+            at,
+            C::Kind::DIGITS,
+            C::Kind::CODE,
+            k as u64,
+            first,
+            second,
+        ),
+        None => at,
     }
-    let ss = state_digits(state);
-    let pp = parent_digits(byte_at(parents, k), state);
-    put_frame(out, at, ACTION_DIGITS, ACTION_CODE, k as u64, ss, pp)
 }
 
-// Writes what instrument i adds to the text, and gives the place behind it.
-fn write_instrument<'a>(
-    out: &mut [u8],
-    at: usize,
-    reads: &'a [u64],
-    writes: &'a [u64],
-    i: usize,
-) -> usize
-    requires { at + length (cell_of instrument reads.now writes.now i) ≤ length out.old }
-    ensures { Written out.old at (cell_of instrument reads.now writes.now i) out.new result }
-{
-    let read = word_at(reads, i);
-    let written = word_at(writes, i);
-    if (read == 0) & (written == 0) {
-        return at;
-    }
-    put_frame(
-        out,
-        at,
-        INSTRUMENT_DIGITS,
-        INSTRUMENT_CODE,
-        i as u64,
-        read,
-        written,
-    )
-}
-
-// Writes what all numbers add to the text, and gives the place behind it.
-pub(crate) fn write_actions<'a>(
-    out: &mut [u8],
-    from: usize,
-    parents: &'a [u8],
-    states: &'a [u8],
-) -> usize
-    requires { from + length (cells_from (cell_of action parents.now states.now) 64 0) ≤ length out.old }
-    ensures { Written out.old from (cells_from (cell_of action parents.now states.now) 64 0) out.new result }
+// Writes what all of them add to the text, and gives the place behind it.
+pub(crate) fn write_cells<C: Cells>(out: &mut [u8], from: usize, cells: &C) -> usize
+    requires { from + length (cells_from (cell_of C.Kind.kind (C.first cells.now) (C.second cells.now)) C.Kind.COUNT 0) ≤ length out.old }
+    ensures { Written out.old from (cells_from (cell_of C.Kind.kind (C.first cells.now) (C.second cells.now)) C.Kind.COUNT 0) out.new result }
 {
     let mut at = from;
-    for k in 0..64usize {
-        at = write_action(out, at, parents, states, k);
+    for k in 0..C::Kind::COUNT {
+        at = write_cell(out, at, cells, k);
     }
     at
 }
 
-// Writes what all instruments add to the text, and gives the place behind it.
-pub(crate) fn write_instruments<'a>(
-    out: &mut [u8],
-    from: usize,
-    reads: &'a [u64],
-    writes: &'a [u64],
-) -> usize
-    requires { from + length (cells_from (cell_of instrument reads.now writes.now) 128 0) ≤ length out.old }
-    ensures { Written out.old from (cells_from (cell_of instrument reads.now writes.now) 128 0) out.new result }
+// The length of what number k adds to the text: nothing, or a frame.
+fn cell_length<C: Cells>(cells: &C, k: usize) -> usize
+    ensures short { result ≤ C.Kind.SIZE }
+    ensures whole { result ≡ length (cell_of C.Kind.kind (C.first cells.now) (C.second cells.now) k) }
 {
-    let mut at = from;
-    for i in 0..128usize {
-        at = write_instrument(out, at, reads, writes, i);
+    match cells.values(k) {
+        Some(_) => C::Kind::SIZE,
+        None => 0,
     }
-    at
+}
+
+// The length of what all of them add to the text.
+pub(crate) fn cells_length<C: Cells>(cells: &C) -> usize
+    ensures short { result ≤ C.Kind.COUNT * C.Kind.SIZE }
+    ensures whole { result ≡ length (cells_from (cell_of C.Kind.kind (C.first cells.now) (C.second cells.now)) C.Kind.COUNT 0) }
+{
+    let mut total = 0usize;
+    for k in 0..C::Kind::COUNT {
+        total += cell_length(cells, k);
+    }
+    total
 }

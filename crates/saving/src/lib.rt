@@ -3,17 +3,16 @@
 #![tactic(auto)]
 
 mod cells;
-mod elements;
-mod lengths;
 
 ghost use Rattle.std.specs.Prelude.{◌≡◌, List, ℕ, ◌≤◌, length};
 ghost use Rattle.forms.specs.Text.{text_of};
 ghost use Rattle.saving.specs.Written.{Written};
 ghost use Rattle.saving.specs.Stored.{Stores};
 
-use marks::answers::{ACCEPTED, NO_ROOM};
+use crate::cells::{Instruments, Numbers, cells_length, write_cells};
+use marks::answers::{ACCEPTED, Refusal};
 
-// What a save hands back: how many bytes it wrote, and the answer's number.
+// What a save hands back, as document 01 shapes it: how many bytes it wrote, and the answer's number.
 #[derive(Clone, Copy)]
 pub struct Saved {
     pub count: usize,
@@ -25,7 +24,16 @@ pub fn text_length<'a>(states: &'a [u8], reads: &'a [u64], writes: &'a [u64]) ->
     ensures { (parents : List ℕ) →
         result ≡ length (text_of (record { parents = parents; states = states.now; reads = reads.now; writes = writes.now })) }
 {
-    lengths::actions_length(states) + lengths::instruments_length(reads, writes)
+    // whatever the parents, since they have no say in which numbers have a frame
+    let numbers = Numbers {
+        parents: &[],
+        states: states,
+    };
+    let instruments = Instruments {
+        reads: reads,
+        writes: writes,
+    };
+    cells_length(&numbers) + cells_length(&instruments)
 }
 
 // Writes the whole text at the buffer's start, and gives its length.
@@ -44,8 +52,16 @@ fn write_text<'a>(
       writes = writes.now;
     })) out.new result }
 {
-    let at = cells::write_actions(out, 0, parents, states);
-    cells::write_instruments(out, at, reads, writes)
+    let numbers = Numbers {
+        parents: parents,
+        states: states,
+    };
+    let instruments = Instruments {
+        reads: reads,
+        writes: writes,
+    };
+    let at = write_cells(out, 0, &numbers);
+    write_cells(out, at, &instruments)
 }
 
 // Writes the whole text at the buffer's start, where it has room for it; else nothing.
@@ -67,7 +83,7 @@ pub fn store_text<'a>(
     if out.len() < text_length(states, reads, writes) {
         return Saved {
             count: 0,
-            answer: NO_ROOM,
+            answer: Refusal::NoRoom as u8,
         };
     }
     Saved {

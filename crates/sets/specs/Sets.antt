@@ -1,5 +1,5 @@
 -- A set of numbers is a natural number: k is a member where its k-th binary digit is 1. A machine word of w bits is a set of numbers below w.
-use Rattle.std.specs.Prelude.{ℕ, ◌/◌, ◌%◌, ◌^◌, Bool, cond, not, ◌==◌, bit_and, bit_or, bit_xor, nat_lt}
+use Rattle.std.specs.Prelude.{◌≡◌, Option, MatchOption, ℕ, ◌/◌, ◌%◌, ◌^◌, Bool, cond, not, ◌==◌, bit_and, bit_or, bit_xor, nat_lt}
 use Rattle.std.specs.Int.Count.{count_trailing_zeros}
 
 -- k is a member of s
@@ -37,3 +37,7 @@ without w s k = cond (nat_lt k w) (difference s (single k)) s
 -- the least member of s, and w where a word of w bits has none
 unfoldable pub least : ℕ → ℕ → ℕ
 least w s = count_trailing_zeros w s
+
+-- the least member of s is taken out and t is left, and nobody is taken out of an empty set
+abbrev pub TakesLeast : ℕ → Option ℕ → ℕ → Type 0
+TakesLeast s taken t = MatchOption taken ((s ≡ 0) × (t ≡ 0)) (λ k. (s ≡ 0 → ⊥) × (k ≡ least 64 s) × (t ≡ without 64 s k))

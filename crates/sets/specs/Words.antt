@@ -1,7 +1,7 @@
 -- A set of several words of `width` bits each stands in a list of words from a place `at` on: number k is digit k % width of word at + k / width.
 -- A list may hold many such sets, one behind the other. The numbers of a set of n words are those below n * width; a number at that bound or above it
 -- reaches into the words behind the set.
-use Rattle.std.specs.Prelude.{ℕ, zero, suc, ◌+◌, ◌*◌, ◌/◌, ◌%◌, ◌^◌, ◌<◌, Bool, true, false, cond, ◌&&◌, ◌||◌, List, [], ◌∷◌, length, set, replicate, nat_lt, slice_index, slice_set}
+use Rattle.std.specs.Prelude.{ℕ, zero, suc, ◌+◌, ◌*◌, ◌/◌, ◌%◌, ◌^◌, ◌<◌, Bool, true, false, cond, ◌&&◌, ◌||◌, List, [], ◌∷◌, length, replicate, nat_lt, slice_index, slice_set}
 use Rattle.sets.specs.Sets.{member, with, without, union, difference, within, meet, least}
 
 -- ---- one set among others

@@ -2,7 +2,8 @@
 #![tactic(auto)]
 
 ghost use Rattle.std.specs.Prelude.{◌≡◌};
-ghost use Rattle.sets.specs.Sets.{member, union, difference, within, meet, with, without, least};
+ghost use Rattle.std.specs.Iterator.{at_most};
+ghost use Rattle.sets.specs.Sets.{member, union, difference, within, meet, with, without, least, TakesLeast};
 
 // Whether k is a member of s.
 pub fn member(s: u64, k: usize) -> bool
@@ -53,7 +54,7 @@ pub fn meet(s: u64, t: u64) -> bool
     s & t != 0
 }
 
-// The least member of s, and 64 where it has none.
+// The least member of s, and 64 where it has none. No option: it is asked of sets that have a member, or where 64, which is in no set, serves as well.
 pub fn least(s: u64) -> usize
     ensures { result ≡ least 64 s }
 {
@@ -65,4 +66,25 @@ pub fn without_least(s: u64) -> u64
     ensures { result ≡ without 64 s (least 64 s) }
 {
     s & std::num::wrapping_sub_u64(s, 1)
+}
+
+// A set of which the members are taken one after the other, from the least on.
+#[derive(Drop)]
+pub struct Members(pub u64);
+
+impl Iterator for Members {
+    type Item = usize;
+
+    ghost next_gives = { λ s taken t. TakesLeast s.0 taken t.0 };
+
+    ghost remaining = { λ s. at_most s.0 };
+
+    fn next(&mut self) -> Option<usize> {
+        if self.0 == 0 {
+            return None;
+        }
+        let k = least(self.0);
+        self.0 = without_least(self.0);
+        Some(k)
+    }
 }

@@ -1,5 +1,5 @@
 // Rule 3's chains: going from parent to parent ends. Two quick passes, and climbs for the numbers that they don't tell of.
-ghost use Rattle.std.specs.Prelude.{false, ◌≡◌, ℕ, ◌≤◌, ◌<◌, get_or};
+ghost use Rattle.std.specs.Prelude.{true, false, MatchOption, ◌≡◌, ℕ, ◌≤◌, ◌<◌, get_or};
 ghost use Rattle.sets.specs.Sets.{member};
 ghost use Rattle.rules.specs.Tests.{all, from};
 ghost use Rattle.rules.specs.Sound.{reaches_top};
@@ -9,15 +9,14 @@ ghost use Rattle.tables.specs.Climbs.{parent_higher};
 ghost use Rattle.views.specs.Soundness.{EndOutside, Climbed};
 
 use crate::parents_lower;
-use marks::bytes::wide;
 
-// Whether every parent has a higher number than its child, as where numbers are taken from above.
+// Whether every parent has a higher number than its child, as where numbers are taken from above. The number is counted, since the test compares it.
 fn parents_higher(parents: &[u8; 64]) -> bool
     ensures { result ≡ all 64 (parent_higher parents.now) }
 {
     let mut ok = true;
     for k in 0..64usize {
-        ok = ok & ((parents[k] == 0) | (k + 1 < wide(parents[k])));
+        ok = ok & ((parents[k] == 0) | (k + 1 < usize::from(parents[k])));
     }
     ok
 }
@@ -30,25 +29,23 @@ fn names_one(numbers: u64, byte: usize) -> bool
     byte != 0 && sets::member(numbers, (byte - 1) % 64)
 }
 
-// Takes out of `rest`, the numbers whose chains are not yet known to end, its least number and those above that, up to one that has no parent or whose
-// parent isn't in `rest`. False where the climb comes back to a number that it has taken, which is a ring.
-fn climb(parents: &[u8; 64], rest: &mut u64) -> bool
-    requires { (rest.old ≡ 0 → ⊥) × ((k : ℕ) → k < 64 → get_or parents.now k 0 ≤ 64) × EndOutside parents.now rest.old }
-    ensures { Climbed parents.now rest.old rest.new result }
+// Of the numbers whose chains are not yet known to end, those that are left without the least and those above it, up to one that has no parent or whose parent
+// isn't among them. None where the climb comes back to a number that it has taken, which is a ring.
+fn climb(parents: &[u8; 64], rest: u64) -> Option<u64>
+    requires { (rest ≡ 0 → ⊥) × ((k : ℕ) → k < 64 → get_or parents.now k 0 ≤ 64) × EndOutside parents.now rest }
+    ensures { MatchOption result (Climbed parents.now rest rest false) (λ left. Climbed parents.now rest left true) }
 {
-    let before = *rest;
-    let mut left = sets::without_least(before);
-    let mut up = wide(parents[sets::least(before)]);
+    let mut left = sets::without_least(rest);
+    let mut up = usize::from(parents[sets::least(rest)]);
     while names_one(left, up) {
         let x = (up - 1) % 64;
         left = sets::without(left, x);
-        up = wide(parents[x]);
+        up = usize::from(parents[x]);
     }
-    if names_one(before, up) {
-        return false;
+    if names_one(rest, up) {
+        return None;
     }
-    *rest = left;
-    true
+    Some(left)
 }
 
 // From every number, going from parent to parent reaches a number with none within 63 steps. A climb stops at numbers known to end, so that no number is
@@ -65,9 +62,10 @@ pub(crate) fn chains_end(parents: &[u8; 64]) -> bool
     }
     let mut rest = u64::MAX;
     while rest != 0 {
-        if !climb(parents, &mut rest) {
+        let Some(left) = climb(parents, rest) else {
             return false;
-        }
+        };
+        rest = left;
     }
     true
 }

@@ -1,11 +1,9 @@
 -- The code, on any arrays:
--- Asking: the conflicting owners, as the code finds them.
 -- Clears: lists whose numbers got another byte or have gone.
 -- Gathered: the set of the numbers of which a test holds.
 -- Standing: all numbers that stand in sets.
 -- Steps: steps put together.
 -- Unique: each step has one result.
-pub mod Asking
 pub mod Clears
 pub mod Gathered
 pub mod Standing

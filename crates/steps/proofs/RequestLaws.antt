@@ -1,4 +1,5 @@
 -- On the arrays of a sound bench a request in place is the step of the rules, or 8 and no change: what it has to know is in the arrays. Assumes nothing.
+use Rattle.std.specs.Prelude.{Option, Some, None}
 use mathlib.Core.Path.{◌≡◌, refl, ◌∙◌}
 use mathlib.Core.Bool.{Bool, true}
 use mathlib.Core.List.{List}
@@ -18,6 +19,9 @@ use Rattle.tables.proofs.Descendants.{known_family}
 use Rattle.views.specs.Arrays.{frees_by}
 use Rattle.rules.specs.Frames.{framed}
 use Rattle.rules.proofs.Frames.{framed_ask}
+use Rattle.marks.specs.declared.requests.Request.{Request}
+use Rattle.marks.specs.declared.requests.Request.TheVariants.{OpenTop, OpenSub, Read, Write, Commit, Abort, Quiet}
+use Rattle.marks.specs.Requests.{meant_by, code_of, first_of, second_of}
 use Rattle.steps.specs.Arrays.{Arrays, read_sets, write_sets, SoundLists, SteppedTo}
 use Rattle.rows.specs.Rows.{busy_in}
 use Rattle.steps.specs.Changes.{family_freed}
@@ -55,3 +59,20 @@ request_steps {before} ok {answer} {after} code x y d =
 
     sound : SoundParents before.parents
     sound = parents_sound layout (arrays before.parents before.states (read_sets before.owners) (write_sets before.owners)) ok.table.is_sound
+
+-- ---- a request as code has it
+
+-- Written as a frame, it is the rules' request.
+pub framed_meant : (asked : Option Request) → framed (code_of asked) (first_of asked) (second_of asked) ≡ meant_by asked
+framed_meant None = refl
+framed_meant (Some (OpenTop n)) = refl
+framed_meant (Some (OpenSub n p)) = refl
+framed_meant (Some (Read a i)) = refl
+framed_meant (Some (Write a i)) = refl
+framed_meant (Some (Commit a)) = refl
+framed_meant (Some (Abort a)) = refl
+framed_meant (Some (Quiet a i)) = refl
+
+pub asked_steps : {before : Arrays} → SoundLists before → {answer : ℕ} {after : Arrays} (asked : Option Request) → Requested (code_of asked) (first_of asked) (second_of asked) before answer after →
+    SteppedTo (meant_by asked) before answer after
+asked_steps ok asked d = rw (← framed_meant asked) (request_steps ok (code_of asked) (first_of asked) (second_of asked) d)

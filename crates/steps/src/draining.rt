@@ -2,13 +2,14 @@
 // stands in no set any more.
 ghost use Rattle.std.specs.Prelude.{[], ◌≡◌, ℕ, ◌+◌, ◌≤◌, ◌<◌, eqb, get_or};
 ghost use Rattle.sets.specs.Sets.{member};
+ghost use Rattle.marks.specs.Answers.{answer_number};
 ghost use Rattle.steps.specs.Arrays.{lent, stand_at};
 ghost use Rattle.steps.specs.Changes.{stand_in, group_in, aborted_byte, released};
 ghost use Rattle.steps.specs.Steps.{Quieted};
 
 use crate::clear::put_bytes;
 use crate::words::{leave, place, word_at};
-use marks::answers::ACCEPTED;
+use marks::answers::Answer;
 use marks::states::{DRAINING, FREE};
 use rows::ACTIONS;
 use rows::quiet::quiet_row;
@@ -76,13 +77,12 @@ fn release(states: &mut [u8; 64], owners: &mut [u64], numbers: u64, i: u32)
 }
 
 // Quiet.
-pub fn quiet(states: &mut [u8; 64], owners: &mut [u64], a: u32, i: u32) -> u8
-    ensures { Quieted a i (lent [] states.old owners.old) result (lent [] states.new owners.new) }
+pub fn quiet(states: &mut [u8; 64], owners: &mut [u64], a: u32, i: u32) -> Answer
+    ensures { Quieted a i (lent [] states.old owners.old) (answer_number result)
+        (lent [] states.new owners.new) }
 {
     let group = group_of(states, a);
-    let answer = quiet_row(states, stand_at(owners, group, i), a, i);
-    if answer == ACCEPTED {
-        release(states, owners, group, i);
-    }
-    answer
+    quiet_row(states, stand_at(owners, group, i), a, i)?;
+    release(states, owners, group, i);
+    Ok(())
 }

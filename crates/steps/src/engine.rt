@@ -1,9 +1,11 @@
 // Requests in place, on parents, states and one slice of owner sets: the read sets of the 128 instruments and then the write sets. No array is copied, and none is
 // tested.
-ghost use Rattle.std.specs.Prelude.{[], ◌≡◌, ◌%◌, get_or};
-ghost use Rattle.views.specs.Arrays.{frees_by};
+ghost use Rattle.std.specs.Prelude.{[], ◌≡◌, false, eqb};
+ghost use Rattle.marks.specs.Answers.{answer_number};
+ghost use Rattle.marks.specs.Requests.{code_of, first_of, second_of};
+ghost use Rattle.rows.specs.Rows.{busy_in};
 ghost use Rattle.steps.specs.Arrays.{lent};
-ghost use Rattle.steps.specs.Changes.{freed, aborted, family_freed};
+ghost use Rattle.steps.specs.Changes.{freed, aborted, family_freed, family_in};
 ghost use Rattle.steps.specs.Steps.{Opened, Asked, Ended, Requested};
 
 use crate::clear::{clear_words, put_bytes};
@@ -11,27 +13,31 @@ use crate::draining::{aborted_byte, quiet, stand};
 use crate::words::{join, place, word_at};
 use family::family_of;
 use heirs::owners::conflicting;
-use marks::answers::ACCEPTED;
-use marks::codes::{ABORT, COMMIT, OPEN_SUB, QUIET, READ, WRITE};
+use marks::answers::{Answer, Refusal};
+use marks::requests::{Request, writes};
 use marks::states::{COMMITTED, FREE, RUNNING};
-use rows::{ACTIONS, ask_row, end_row, open_row};
+use rows::{ACTIONS, abort_row, ask_row, commit_row, open_sub_row, open_top_row};
 use tree::children::running_child;
 
-// Open top or open sub, by the frame's code. No set is looked at.
-pub fn open(parents: &mut [u8; 64], states: &mut [u8; 64], code: u8, x: u32, y: u32) -> u8
-    ensures { Opened code x y (lent parents.old states.old []) result
+// Open top. No set is looked at, and no parent.
+pub fn open_top(states: &mut [u8; 64], n: u32) -> Answer
+    ensures { Opened 1 n 0 (lent [] states.old []) (answer_number result) (lent [] states.new []) }
+{
+    open_top_row(states, n)?;
+    states[(n % ACTIONS) as usize] = RUNNING;
+    Ok(())
+}
+
+// Open sub. No set is looked at.
+pub fn open_sub(parents: &mut [u8; 64], states: &mut [u8; 64], n: u32, p: u32) -> Answer
+    ensures { Opened 2 n p (lent parents.old states.old []) (answer_number result)
         (lent parents.new states.new []) }
 {
-    let answer = open_row(states, code, x, y);
-    if answer != ACCEPTED {
-        return answer;
-    }
-    let at = (x % ACTIONS) as usize;
+    open_sub_row(states, n, p)?;
+    let at = (n % ACTIONS) as usize;
     states[at] = RUNNING;
-    if code == OPEN_SUB {
-        parents[at] = (y % ACTIONS) as u8 + 1;
-    }
-    answer
+    parents[at] = (p % ACTIONS) as u8 + 1;
+    Ok(())
 }
 
 // Read or write, where `busy` says whether a has a running child, and `line` is a with its ancestors, or empty where they are not known. Both sets of the instrument
@@ -45,18 +51,16 @@ pub fn ask<'a>(
     is_write: bool,
     a: u32,
     i: u32,
-) -> u8
-    ensures { Asked is_write «busy» line a i (lent parents.now states.now owners.old) result
-        (lent parents.now states.now owners.new) }
+) -> Answer
+    ensures { Asked is_write «busy» line a i (lent parents.now states.now owners.old)
+        (answer_number result) (lent parents.now states.now owners.new) }
 {
     let readers = word_at(owners, place(false, i));
     let writers = word_at(owners, place(true, i));
     let held = conflicting(is_write, readers, writers);
-    let answer = ask_row(parents, states, busy, line, held, a, i);
-    if answer == ACCEPTED {
-        join(owners, place(is_write, i), (a % ACTIONS) as usize);
-    }
-    answer
+    ask_row(parents, states, busy, line, held, a, i)?;
+    join(owners, place(is_write, i), (a % ACTIONS) as usize);
+    Ok(())
 }
 
 // The numbers that have gone become free and leave all sets.
@@ -69,83 +73,114 @@ pub fn free(parents: &mut [u8; 64], states: &mut [u8; 64], owners: &mut [u64], g
     clear_words(owners, gone);
 }
 
-// The family of x leaves the tree. Its numbers drain under x where one of them stands in a set, and else become free; no set changes.
-fn abort(parents: &mut [u8; 64], states: &mut [u8; 64], owners: &[u64], family: u64, x: u32)
+// The family of a leaves the tree. Its numbers drain under a where one of them stands in a set, and else become free; no set changes.
+fn drain(parents: &mut [u8; 64], states: &mut [u8; 64], owners: &[u64], family: u64, a: u32)
     ensures { lent parents.new states.new owners.now
-        ≡ aborted family x (lent parents.old states.old owners.now) }
+        ≡ aborted family a (lent parents.old states.old owners.now) }
 {
     put_bytes(parents, family, 0);
-    put_bytes(states, family, aborted_byte(stand(owners, family), x));
+    put_bytes(states, family, aborted_byte(stand(owners, family), a));
 }
 
-// Whether a commit or an abort, where it is accepted, takes a family out of the tree: an abort, or the commit of a number that has no parent.
-pub fn frees(parents: &[u8; 64], code: u8, x: u32) -> bool
-    ensures { result ≡ frees_by code (get_or parents.now (x % 64) 0) }
-{
-    (code == ABORT) | (parents[(x % ACTIONS) as usize] == 0)
-}
-
-// Commit or abort, by the frame's code, where `busy` says whether x has a running child, and `gone` is its family if one is to leave the tree.
-pub fn end(
+// Commit, where `busy` says whether a has a running child, and `gone` is its family if it has no parent.
+pub fn commit(
     parents: &mut [u8; 64],
     states: &mut [u8; 64],
     owners: &mut [u64],
     busy: bool,
     gone: u64,
-    code: u8,
-    x: u32,
-) -> u8
-    ensures { Ended code «busy» gone x (lent parents.old states.old owners.old) result
-        (lent parents.new states.new owners.new) }
+    a: u32,
+) -> Answer
+    ensures { Ended 5 «busy» gone a (lent parents.old states.old owners.old)
+        (answer_number result) (lent parents.new states.new owners.new) }
 {
-    let answer = end_row(states, busy, code, x);
-    if answer != ACCEPTED {
-        return answer;
-    }
-    if code == ABORT {
-        abort(parents, states, owners, gone, x);
-        return answer;
-    }
-    if parents[(x % ACTIONS) as usize] == 0 {
+    commit_row(states, busy, a)?;
+    let at = (a % ACTIONS) as usize;
+    if parents[at] == 0 {
         free(parents, states, owners, gone);
-        return answer;
+        return Ok(());
     }
-    states[(x % ACTIONS) as usize] = COMMITTED;
-    answer
+    states[at] = COMMITTED;
+    Ok(())
 }
 
-// The family that a commit or an abort takes out of the tree, and nobody where it takes none.
-fn family_freed(parents: &[u8; 64], code: u8, x: u32) -> u64
-    ensures { result ≡ family_freed code x parents.now }
+// Abort, where `gone` is the family of a.
+pub fn abort(
+    parents: &mut [u8; 64],
+    states: &mut [u8; 64],
+    owners: &[u64],
+    gone: u64,
+    a: u32,
+) -> Answer
+    ensures { Ended 6 false gone a (lent parents.old states.old owners.now) (answer_number result)
+        (lent parents.new states.new owners.now) }
 {
-    if frees(parents, code, x) {
-        return family_of(parents, (x % ACTIONS) as usize);
+    abort_row(states, a)?;
+    drain(parents, states, owners, gone, a);
+    Ok(())
+}
+
+// The family of a.
+fn family_in(parents: &[u8; 64], a: u32) -> u64
+    ensures { result ≡ family_in parents.now a }
+{
+    family_of(parents, (a % ACTIONS) as usize)
+}
+
+// The family that the commit of a takes out of the tree: a's where a has no parent, and else nobody's.
+fn family_of_top(parents: &[u8; 64], a: u32) -> u64
+    ensures { result ≡ family_freed 5 a parents.now }
+{
+    if parents[(a % ACTIONS) as usize] == 0 {
+        return family_in(parents, a);
     }
     0
 }
 
-// The request of a frame's code and two numbers, for a caller that keeps nothing beside the arrays; a code that is none of the seven is malformed.
+// Read or write, with what it has to know of a looked up in the arrays.
+fn ask_looked_up<'a>(
+    parents: &'a [u8; 64],
+    states: &'a [u8; 64],
+    owners: &mut [u64],
+    is_write: bool,
+    a: u32,
+    i: u32,
+) -> Answer
+    ensures { Asked is_write (busy_in parents.now states.now a) 0 a i
+        (lent parents.now states.now owners.old) (answer_number result)
+        (lent parents.now states.now owners.new) }
+{
+    let busy = running_child(parents, states, (a % ACTIONS) as u8 + 1);
+    ask(parents, states, owners, busy, 0, is_write, a, i)
+}
+
+// A request, for a caller that keeps nothing beside the arrays; where there is none, that is malformed.
 pub fn request(
     parents: &mut [u8; 64],
     states: &mut [u8; 64],
     owners: &mut [u64],
-    code: u8,
-    x: u32,
-    y: u32,
-) -> u8
-    ensures { Requested code x y (lent parents.old states.old owners.old) result
+    asked: Option<Request>,
+) -> Answer
+    ensures { Requested (code_of asked) (first_of asked) (second_of asked)
+        (lent parents.old states.old owners.old) (answer_number result)
         (lent parents.new states.new owners.new) }
 {
-    if code < READ {
-        return open(parents, states, code, x, y);
+    match asked {
+        Some(Request::OpenTop(n)) => open_top(states, n),
+        Some(Request::OpenSub(n, p)) => open_sub(parents, states, n, p),
+        Some(Request::Read(a, i) | Request::Write(a, i)) => {
+            ask_looked_up(parents, states, owners, writes(asked), a, i)
+        }
+        Some(Request::Commit(a)) => {
+            let busy = running_child(parents, states, (a % ACTIONS) as u8 + 1);
+            let gone = family_of_top(parents, a);
+            commit(parents, states, owners, busy, gone, a)
+        }
+        Some(Request::Abort(a)) => {
+            let gone = family_in(parents, a);
+            abort(parents, states, owners, gone, a)
+        }
+        Some(Request::Quiet(a, i)) => quiet(states, owners, a, i),
+        None => Err(Refusal::Malformed),
     }
-    if code == QUIET {
-        return quiet(states, owners, x, y);
-    }
-    let busy = running_child(parents, states, (x % ACTIONS) as u8 + 1);
-    if code < COMMIT {
-        return ask(parents, states, owners, busy, 0, code == WRITE, x, y);
-    }
-    let gone = family_freed(parents, code, x);
-    end(parents, states, owners, busy, gone, code, x)
 }

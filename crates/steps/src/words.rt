@@ -21,13 +21,10 @@ pub fn place(is_write: bool, i: u32) -> usize
 pub(crate) fn word_at(words: &[u64], at: usize) -> u64
     ensures { result ≡ get_or words.now at 0 }
 {
-    if at < words.len() {
-        return words[at];
-    }
-    0
+    words.get(at).copied().unwrap_or(0)
 }
 
-// k joins the set at a place; past the end there is none.
+// k joins the set at a place; past the end there is none. By index: of what is written through `get_mut` a proof knows nothing afterwards.
 pub(crate) fn join(words: &mut [u64], at: usize, k: usize)
     ensures { words.new ≡ joined_at words.old at k }
 {
@@ -36,18 +33,11 @@ pub(crate) fn join(words: &mut [u64], at: usize, k: usize)
     }
 }
 
-// The numbers that have gone leave the set at a place; past the end there is none.
+// The numbers that have gone leave the set at a place; past the end there is none. By index for the same reason.
 pub fn leave(words: &mut [u64], at: usize, gone: u64)
     ensures { words.new ≡ left_at words.old at gone }
 {
     if at < words.len() {
         words[at] = sets::difference(words[at], gone);
     }
-}
-
-// The same of 128 sets.
-pub fn leave_one(words: &mut [u64; 128], at: usize, gone: u64)
-    ensures { words.new ≡ left_at words.old at gone }
-{
-    leave(words, at, gone);
 }

@@ -7,130 +7,72 @@ mod marks;
 mod messages;
 mod waits;
 
-ghost use Rattle.std.specs.Prelude.{◌≤◌, ◌≡◌, length};
-ghost use Rattle.std.specs.Io.{ReadsAtMost, WritesAtMost};
-ghost use Rattle.io.specs.Counts.{IsPrefixLen};
+ghost use Rattle.std.specs.Prelude.{◌≡◌};
+ghost use Rattle.streams.specs.Reading.{Reads};
+ghost use Rattle.streams.specs.declared.Failed.TheVariants.{Input as FailedInput};
 
-pub use marks::{done, failed, refused};
+pub use marks::{Mark, end};
 use messages::{say_error, say_untaken};
 use std::io::{Eprint, Error, ErrorKind, Input, Print, Read, Write, writer};
 use std::rt::Clock;
-use waits::again;
+use waits::{Patient, patiently};
 
-// What came of reading: how many bytes stand at the buffer's start, and whether a read failed.
-#[derive(Clone, Copy)]
-pub struct Got {
-    pub count: usize,
-    pub failed: bool,
+// What failed. A message on standard error has said so.
+#[derive(Clone, Copy, Debug, PartialEq, Eq)]
+pub enum Failed {
+    // A read, after so many bytes, which stand at the buffer's start.
+    Input(usize),
+    // A write, or the file that was written to.
+    Output,
 }
 
-// One read of standard input into the buffer's start. A count of 0 that has not failed: the input has ended, or the buffer is empty.
-pub fn read_some<R: Input + Eprint + Clock>(rt: &R, buffer: &mut [u8]) -> Got
-    ensures { IsPrefixLen result.count buffer.new }
+// One read of standard input into the buffer's start. A count of 0: the input has ended, or the buffer is empty.
+pub fn read_some<R: Input + Eprint + Clock>(rt: &R, buffer: &mut [u8]) -> Result<usize, Failed>
+    ensures { Reads result buffer.new }
 {
-    match read_once(rt, buffer) {
-        Ok(count) => Got {
-            count,
-            failed: false,
-        },
-        Err(error) => unread(rt, &error),
-    }
+    patiently(rt, buffer.len(), || rt.reader().read(buffer)).map_err(|error| unread(rt, &error))
 }
 
-// One read of standard input, made again until it moves bytes, sees the end or fails for good.
-fn read_once<R: Input + Clock>(rt: &R, buffer: &mut [u8]) -> std::io::Result<usize>
-    ensures { ReadsAtMost result buffer.new }
-{
-    for _ in 0..u64::MAX {
-        match rt.reader().read(buffer) {
-            Ok(count) => return Ok(count),
-            Err(error) => {
-                if !again(rt, &error) {
-                    return Err(error);
-                }
-            }
-        }
-    }
-    Err(Error::from(ErrorKind::Interrupted))
-}
-
-// Says that a read failed.
-fn unread<R: Eprint>(rt: &R, error: &Error) -> Got
-    ensures { result.count ≡ 0 }
+// Says that a read failed, before which no byte came.
+fn unread<R: Eprint>(rt: &R, error: &Error) -> Failed
+    ensures { result ≡ FailedInput 0 }
 {
     say_error(rt, "the input could not be read", error);
-    Got {
-        count: 0,
-        failed: true,
-    }
+    Failed::Input(0)
 }
 
-// Reads standard input until the buffer is full, the input has ended or a read failed; what came before a failure is counted.
-pub fn read_full<R: Input + Eprint + Clock>(rt: &R, buffer: &mut [u8]) -> Got
-    ensures { IsPrefixLen result.count buffer.new }
+// Reads standard input until the buffer is full, the input has ended or a read failed. What came before the end or a failure is counted, which std's
+// `read_exact` does not.
+pub fn read_full<R: Input + Eprint + Clock>(rt: &R, buffer: &mut [u8]) -> Result<usize, Failed>
+    ensures { Reads result buffer.new }
 {
     let mut filled = 0;
     while filled < buffer.len() {
-        let got = read_some(rt, &mut buffer[filled..]);
-        let count = got.count;
-        if got.failed {
-            return Got {
-                count: filled,
-                failed: true,
-            };
+        match read_some(rt, &mut buffer[filled..]) {
+            Ok(0) => break,
+            Ok(count) => filled += count,
+            Err(_) => return Err(Failed::Input(filled)),
         }
-        if count == 0 {
-            return Got {
-                count: filled,
-                failed: false,
-            };
-        }
-        filled += count;
     }
-    Got {
-        count: filled,
-        failed: false,
-    }
+    Ok(filled)
 }
 
-// Writes all of the bytes to standard output and answers true, or says on standard error why it could not.
-pub fn write_whole<R: Print + Eprint + Clock>(rt: &R, bytes: &[u8]) -> bool {
-    let mut output = writer(rt);
-    let mut written = 0;
-    while written < bytes.len() {
-        match write_some(rt, &mut output, &bytes[written..]) {
-            Ok(0) => {
-                say_untaken(rt);
-                return false;
-            }
-            Ok(count) => written += count,
-            Err(error) => {
-                unwritten(rt, &error);
-                return false;
-            }
-        }
+// Writes all of the bytes to standard output, or says on standard error why it could not.
+pub fn write_whole<R: Print + Eprint + Clock>(rt: &R, bytes: &[u8]) -> Result<(), Failed> {
+    Patient {
+        rt: rt,
+        to: writer(rt),
     }
-    true
+    .write_all(bytes)
+    .map_err(|error| unwritten(rt, &error))
 }
 
 // Says that a write failed.
-fn unwritten<R: Eprint>(rt: &R, error: &Error) {
-    say_error(rt, "the output could not be written", error);
-}
-
-// One write, made again until it moves bytes, takes nothing or fails for good: how many bytes were taken.
-fn write_some<R: Clock, W: Write>(rt: &R, to: &mut W, bytes: &[u8]) -> std::io::Result<usize>
-    ensures { WritesAtMost result bytes.now }
-{
-    for _ in 0..u64::MAX {
-        match to.write(bytes) {
-            Ok(count) => return Ok(count),
-            Err(error) => {
-                if !again(rt, &error) {
-                    return Err(error);
-                }
-            }
-        }
+fn unwritten<R: Eprint>(rt: &R, error: &Error) -> Failed {
+    if error.kind() == ErrorKind::WriteZero {
+        say_untaken(rt);
+    } else {
+        say_error(rt, "the output could not be written", error);
     }
-    Err(Error::from(ErrorKind::Interrupted))
+    Failed::Output
 }

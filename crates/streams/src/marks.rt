@@ -1,45 +1,44 @@
 // How a program says that it has ended, and how it went. A program whose first argument is `--mark` writes one character to descriptor 3 as the last thing
-// that it does: 0 done, 1 the text was refused, 3 input or output failed. One that was not asked to writes none.
-use crate::{unwritten, write_some};
-use std::fs;
+// that it does. One that was not asked to writes none.
+use crate::waits::Patient;
+use crate::{Failed, unwritten};
 use std::fs::{OpenFile, OpenOptions};
-use std::io::{Eprint, ErrorKind, Result};
+use std::io::{Eprint, ErrorKind, Write};
 use std::rt::{Clock, Env, Files};
+use std::{fs, io};
 
 // The descriptor that takes the mark, and standard output, as files that can be opened again.
 const MARKS: &str = "/dev/fd/3";
 
 const OUTPUT: &str = "/dev/fd/1";
 
-// All was read and written.
-pub fn done<R: Files + Env + Eprint + Clock>(rt: &R) {
-    ended(rt, b'0');
+// How a program ended: the character that says so.
+#[derive(Clone, Copy, Debug, PartialEq, Eq)]
+pub enum Mark {
+    // All was read and written.
+    Done = b'0' as isize,
+    // All was read and written, and the text was refused.
+    Refused = b'1' as isize,
+    // Something could not be read or written; a message has said what.
+    Failed = b'3' as isize,
 }
 
-// All was read and written, and the text was refused.
-pub fn refused<R: Files + Env + Eprint + Clock>(rt: &R) {
-    ended(rt, b'1');
-}
-
-// Something could not be read or written; a message has said what.
-pub fn failed<R: Files + Env + Clock>(rt: &R) {
-    mark(rt, b'3');
+// Ends a program: what it wrote is held, and the mark is left.
+pub fn end<R: Files + Env + Eprint + Clock>(rt: &R, went: Result<Mark, Failed>) {
+    let held = went.and_then(|mark| hold(rt).map(|_| mark));
+    leave(rt, held.unwrap_or(Mark::Failed));
 }
 
 // Output counts as written once its file holds it, since some file systems fail only after the last write.
-fn ended<R: Files + Env + Eprint + Clock>(rt: &R, character: u8) {
-    if let Err(error) = settle(rt) {
-        if !is_moot(error.kind()) {
-            unwritten(rt, &error);
-            failed(rt);
-            return;
-        }
+fn hold<R: Files + Eprint>(rt: &R) -> Result<(), Failed> {
+    match settle(rt) {
+        Err(error) if !is_moot(error.kind()) => Err(unwritten(rt, &error)),
+        _ => Ok(()),
     }
-    mark(rt, character);
 }
 
 // Has the system bring what was written into the file. Only a file keeps something back: a pipe or a terminal is not asked.
-fn settle<R: Files>(rt: &R) -> Result<()> {
+fn settle<R: Files>(rt: &R) -> io::Result<()> {
     if fs::metadata(rt, OUTPUT)?.is_file() {
         OpenOptions::new()
             .append(true)
@@ -63,12 +62,12 @@ fn is_moot(kind: ErrorKind) -> bool {
 
 // Writes the mark if it was asked for. Where descriptor 3 can't be opened to write, there is none. It is opened to read too, so that a named pipe that nobody
 // reads keeps nobody waiting.
-fn mark<R: Files + Env + Clock>(rt: &R, character: u8) {
+fn leave<R: Files + Env + Clock>(rt: &R, mark: Mark) {
     if !asked(rt) {
         return;
     }
-    if let Ok(mut marks) = OpenOptions::new().read(true).append(true).open(rt, MARKS) {
-        let _ = write_some(rt, &mut marks, &[character]);
+    if let Ok(marks) = OpenOptions::new().read(true).append(true).open(rt, MARKS) {
+        let _ = Patient { rt: rt, to: marks }.write_all(&[mark as u8]);
     }
 }
 

@@ -1,5 +1,5 @@
 -- Sets gathered by a loop over the numbers: the numbers that pass a test, the children of each number, and the line of each. Assumes nothing.
-use mathlib.Core.Path.{◌≡◌, refl, ◌∙◌}
+use mathlib.Core.Path.{◌≡◌, refl, sym, ◌∙◌}
 use mathlib.Core.Bool.{Bool, true, false, not, ◌&&◌, or-false}
 use mathlib.Core.List.{List}
 use Prim.Native.Nat.{ℕ, suc, ◌+◌, ◌-◌, ◌≤◌, ◌<◌}
@@ -11,7 +11,10 @@ use lib.Seq.{get_or-set_same, get_or-set_other}
 use Rattle.sets.specs.Sets.{member, with}
 use Rattle.sets.proofs.Laws.{member_empty, member_with}
 use Rattle.rules.proofs.Tests.{by_bool, clash, and_left, and_right, or_right, by_last}
-use Rattle.tables.specs.Tree.{in_line}
+use mathlib.Core.Option.{none, some, none-ne-some}
+use Rattle.tables.specs.Tree.{in_line, known_up}
+use Rattle.tables.proofs.Lines.{known_parent}
+use Rattle.tables.proofs.Named.{up_byte}
 use Rattle.tables.proofs.Stores.{zeros}
 
 -- ---- numbers taken in one by one
@@ -127,3 +130,19 @@ lines_more n parents lines k line lk h e =
       each = λ a l x. by_last k a (omega arith) (λ q. rw (q, get_or-set_same lines k line 0 (rw h.long lk)) (e x))
           (λ below. rw (get_or-set_other lines k a line 0 (λ q. absurd (omega arith))) (h.each a below x));
     }
+
+-- the same by what the byte names: one of the n numbers, or nobody
+module _ (n : ℕ) (parents children : List ℕ) (k : ℕ) (h : ChildrenTo n parents children k) where
+  pub child_named : (p : ℕ) → k < n → known_up n parents k ≡ some p → ChildrenTo n parents (set children p (with n (get_or children p 0) k)) (k + 1)
+  child_named p lk e =
+      let byte = up_byte n parents k p e in
+      let same : get_or parents k 0 - 1 ≡ p = omega (arith, byte.0) in
+      rw same at (children_in n parents children k h lk (rw (byte.0, eqb-suc-zero p) (le-leb (suc p) n byte.1)))
+
+  pub nobody_named : known_up n parents k ≡ none → ChildrenTo n parents children (k + 1)
+  nobody_named e = children_out n parents children k h (by_bool (names n (get_or parents k 0)) one (λ t. t))
+    where
+      one : names n (get_or parents k 0) ≡ true → names n (get_or parents k 0) ≡ false
+      one t =
+          let known = names_known n (get_or parents k 0) t in
+          absurd (none-ne-some (get_or parents k 0 - 1) (sym e ∙ known_parent n parents k (λ z. absurd (omega arith)) known.1))

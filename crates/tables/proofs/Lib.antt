@@ -9,6 +9,8 @@
 -- Accepts: the table after an accepted request's stores is the step.
 -- InPlace: the same in place, on the table of a sound bench.
 -- SetsKept: which sets a request leaves as they were.
+-- Folds: what a pass over a list says of all its elements, or of any, where it joins a test of each.
+pub mod Folds
 pub mod States
 pub mod ViewLaws
 pub mod Groups

@@ -33,3 +33,7 @@ least_taken n s fits more =
 -- the same of a number that is known to be the least
 pub taken_least : (n s k : ℕ) → k ≡ least n s → s < 2 ^ n → (s ≡ 0 → ⊥) → Taken n s k (without n s (least n s))
 taken_least n s k e fits more = rw e (least_taken n s fits more)
+
+-- the same of a number that a set's iterator gives
+pub taken_next : {s k rest : ℕ} → s < 2 ^ 64 → (s ≡ 0 → ⊥) × (k ≡ least 64 s) × (rest ≡ without 64 s k) → Taken 64 s k rest
+taken_next {s} fits gave = rw (gave.2, gave.1) (least_taken 64 s fits gave.0)

@@ -1,15 +1,26 @@
 // Going up the tree of actions from a number, on any bytes of parents and states. A climb stops at a number that has no parent, at a parent above 63, and
-// after 64 steps, so that rings of parents end it too.
+// after 64 steps, so that rings of parents end it too. Parents and states are lent as the two arrays that they are in a record: a struct of two references would be made anew at
+// each call, from arrays that the callers change in between, and each clause would have to say at which moment it is meant.
 #![tactic(auto)]
 
 pub mod children;
 pub mod each;
 
-ghost use Rattle.std.specs.Prelude.{◌≡◌, ℕ, ◌%◌};
+ghost use Rattle.std.specs.Prelude.{◌≡◌, MatchOption, ℕ, ◌%◌, ◌<◌};
+ghost use Rattle.std.proofs.Math.Option.{none, some};
 ghost use Rattle.sets.specs.Sets.{member};
-ghost use Rattle.views.specs.Tree.{met_from};
+ghost use Rattle.views.specs.Tree.{named, met_from};
 
-use marks::bytes::wide;
+// The number that a parent's byte names: the one below it, and nobody where it is 0 or names none of the 64 numbers.
+#[inline(always)]
+pub fn named(byte: u8) -> Option<usize>
+    ensures { MatchOption result (named byte ≡ none) (λ p. (p < 64) × (named byte ≡ some p)) }
+{
+    if byte == 0 || 64 < byte {
+        return None;
+    }
+    Some(usize::from(byte) - 1)
+}
 
 // The asker and its ancestors, as a set. The asker is the number's remainder by 64.
 pub fn line_of(parents: &[u8; 64], a: usize) -> u64
@@ -17,18 +28,12 @@ pub fn line_of(parents: &[u8; 64], a: usize) -> u64
 {
     let mut line = 0u64;
     let mut x = a % 64;
-    let mut left = 65usize;
-    while left != 0 {
+    for _ in 0..65usize {
         line = sets::with(line, x);
-        let up = wide(parents[x]);
-        if up == 0 {
+        let Some(up) = named(parents[x]) else {
             return line;
-        }
-        if 64 < up {
-            return line;
-        }
-        x = up - 1;
-        left = left - 1;
+        };
+        x = up;
     }
     line
 }

@@ -1,5 +1,3 @@
--- Steps: one step more, as a loop that counts up takes it. Sameness: lists and records that are the same at every place are the same.
--- Texts: the bench after a text, character by character.
-pub mod Sameness
+-- Steps: one step more, as a loop that counts up takes it. Texts: the bench after a text, character by character.
 pub mod Steps
 pub mod Texts

@@ -1,4 +1,4 @@
-pub mod Asked
-pub mod Same
+pub mod Measures
+pub mod Runs
 pub mod Session
 pub mod Sums

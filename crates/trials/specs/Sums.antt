@@ -1,5 +1,5 @@
 -- The sums that the test programs write: a value, a word, a record and a buffer folded into a sum so far.
-use Rattle.std.specs.Prelude.{Bool, ◌&&◌, List, ℕ, zero, suc, ◌+◌, ◌*◌, ◌/◌, ◌%◌, eqb, length, get_or, if◌then◌else◌}
+use Rattle.std.specs.Prelude.{Bool, ◌&&◌, List, ℕ, zero, suc, ◌+◌, ◌*◌, ◌/◌, ◌%◌, eqb, get_or, fold, if◌then◌else◌}
 use Rattle.bench.specs.declared.Bench.{Bench}
 
 -- The sum with a further value; 4,294,967,291 is a prime.
@@ -40,10 +40,6 @@ with_instruments n sparse b sum = after_steps n (λ i. with_sets sparse i (get_o
 abbrev pub with_record : ℕ → Bool → Bench → ℕ
 with_record sum sparse b = with_instruments 128 sparse b (with_numbers 64 sparse b sum)
 
--- The sum of a list's first n bytes.
-abbrev pub with_first : ℕ → List ℕ → ℕ
-with_first n bytes = after_steps n (λ k sum. with_value sum (get_or bytes k 0)) 0
-
 -- The sum of a list of bytes.
 abbrev pub with_bytes : List ℕ → ℕ
-with_bytes bytes = with_first (length bytes) bytes
+with_bytes bytes = fold with_value 0 bytes

@@ -1,9 +1,9 @@
-// What the test programs share: drawn numbers, requests by their codes, sessions as text, sums over records, whether two records are the same, and the lines that they write.
+// What the test programs share: drawn numbers, sessions as text, sums over records, the lines that they write, and what a measuring program is asked for.
 #![tactic(auto)]
 
 pub mod draw;
-pub mod requests;
-pub mod same;
+pub mod measures;
+pub mod runs;
 pub mod session;
 pub mod show;
 pub mod sums;

@@ -4,25 +4,11 @@ ghost use Rattle.std.specs.Prelude.{◌≡◌, IfOk};
 
 use std::io;
 
-// Writes a byte as two digits.
-fn digits(rt: &impl Print, byte: u8) -> io::Result<()> {
-    print!(rt; "{byte:02x}")
-}
-
-fn space(rt: &impl Print) -> io::Result<()> {
-    print!(rt; " ")
-}
-
-fn line_end(rt: &impl Print) -> io::Result<()> {
-    println!(rt)
-}
-
 // Writes 01 where the fact holds and else 00, among the answers of a line.
 pub fn fact(rt: &impl Print, holds: bool) -> io::Result<bool>
     ensures { IfOk result (λ written. written ≡ holds) }
 {
-    space(rt)?;
-    digits(rt, holds as u8)?;
+    print!(rt; " {:02x}", u8::from(holds))?;
     Ok(holds)
 }
 
@@ -30,9 +16,7 @@ pub fn fact(rt: &impl Print, holds: bool) -> io::Result<bool>
 pub fn last_fact(rt: &impl Print, holds: bool) -> io::Result<bool>
     ensures { IfOk result (λ written. written ≡ holds) }
 {
-    space(rt)?;
-    digits(rt, holds as u8)?;
-    line_end(rt)?;
+    println!(rt; " {:02x}", u8::from(holds))?;
     Ok(holds)
 }
 
@@ -40,8 +24,7 @@ pub fn last_fact(rt: &impl Print, holds: bool) -> io::Result<bool>
 pub fn count(rt: &impl Print, n: u64) -> io::Result<u64>
     ensures { IfOk result (λ written. written ≡ n) }
 {
-    space(rt)?;
-    print!(rt; "{n}")?;
+    print!(rt; " {n}")?;
     Ok(n)
 }
 
@@ -49,8 +32,17 @@ pub fn count(rt: &impl Print, n: u64) -> io::Result<u64>
 pub fn last_sum(rt: &impl Print, sum: u64) -> io::Result<u64>
     ensures { IfOk result (λ written. written ≡ sum) }
 {
-    space(rt)?;
-    print!(rt; "{sum:08x}")?;
-    line_end(rt)?;
+    println!(rt; " {sum:08x}")?;
     Ok(sum)
+}
+
+// Writes a line: what it is about, its counts and its sum.
+pub fn line(rt: &impl Print, about: u64, counts: &[u64], sum: u64) -> io::Result<u64>
+    ensures { IfOk result (λ written. written ≡ sum) }
+{
+    print!(rt; "{about}")?;
+    for &n in counts {
+        count(rt, n)?;
+    }
+    last_sum(rt, sum)
 }

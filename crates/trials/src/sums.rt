@@ -11,13 +11,6 @@ pub fn folded(sum: u64, value: u64) -> u64
     (sum % 4294967291 * 31 + value % 4294967296) % 4294967291
 }
 
-// The sum with a byte.
-fn folded_byte(sum: u64, byte: u8) -> u64
-    ensures { result ≡ with_value sum byte }
-{
-    folded(sum, byte as u64)
-}
-
 // The sum with a word, its lower half first.
 fn folded_word(sum: u64, word: u64) -> u64
     ensures { result ≡ with_word sum word }
@@ -29,7 +22,7 @@ fn folded_word(sum: u64, word: u64) -> u64
 fn folded_place(sum: u64, place: usize, first: u64, second: u64) -> u64
     ensures { result ≡ with_place sum place first second }
 {
-    if (first == 0) & (second == 0) {
+    if first == 0 && second == 0 {
         return sum;
     }
     folded_word(folded_word(folded(sum, place as u64), first), second)
@@ -40,9 +33,9 @@ fn folded_number(sum: u64, sparse: bool, n: usize, parent: u8, state: u8) -> u64
     ensures { result ≡ with_number sparse n parent state sum }
 {
     if sparse {
-        return folded_place(sum, n, parent as u64, state as u64);
+        return folded_place(sum, n, u64::from(parent), u64::from(state));
     }
-    folded_byte(folded_byte(sum, parent), state)
+    folded(folded(sum, u64::from(parent)), u64::from(state))
 }
 
 // The sum with an instrument's sets.
@@ -56,7 +49,7 @@ fn folded_sets(sum: u64, sparse: bool, i: usize, reads: u64, writes: u64) -> u64
 }
 
 // The sum with a whole record: parents and states number by number, then the sets instrument by instrument. A sparse sum passes over what is 0 and
-// counts the place of what isn't.
+// counts the place of what isn't, so the places are counted here.
 pub fn folded_record(start: u64, sparse: bool, b: Bench) -> u64
     ensures { result ≡ with_record start sparse b }
 {
@@ -74,9 +67,7 @@ pub fn folded_record(start: u64, sparse: bool, b: Bench) -> u64
 pub fn folded_bytes(bytes: &[u8]) -> u64
     ensures { result ≡ with_bytes bytes.now }
 {
-    let mut sum = 0;
-    for k in 0..bytes.len() {
-        sum = folded_byte(sum, bytes[k]);
-    }
-    sum
+    bytes
+        .iter()
+        .fold(0, |sum, byte| folded(sum, u64::from(*byte)))
 }

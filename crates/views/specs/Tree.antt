@@ -1,6 +1,7 @@
 -- The tree of 64 actions: what parents' bytes say, and parents with states.
-use Rattle.std.specs.Prelude.{Bool, List, ℕ}
-use Rattle.std.proofs.Math.Option.{Option}
+use Rattle.std.specs.Prelude.{Bool, List, ℕ, leb, if◌then◌else◌}
+use Rattle.std.proofs.Math.Option.{Option, none}
+use Rattle.tables.specs.Table.{parent_of}
 use Rattle.tables.specs.Tree as tables
 
 -- These parents and states are those of a sound bench.
@@ -18,6 +19,10 @@ in_line = tables.in_line 64
 -- k is a or one of its descendants
 abbrev pub descends : List ℕ → ℕ → ℕ → Bool
 descends = tables.descends 64
+
+-- the number that a parent's byte names, where it names one of the 64 numbers
+abbrev pub named : ℕ → Option ℕ
+named byte = if leb byte 64 then parent_of byte else none
 
 -- the parent of k where its byte names one of the 64 numbers
 abbrev pub known_up : List ℕ → ℕ → Option ℕ

@@ -1,13 +1,10 @@
 -- `put_words` meets its contract. Assumes nothing.
-use Rattle.copies.proofs.CopyLaws.{too_many, too_far, near}
+use native.Mathlib.Omega.{arith}
+use Rattle.copies.proofs.CopyLaws.{near, put_part}
 use Rattle.copies.proofs.put_words.Goals as goal
 
-pub returns-then-words-from : goal.returns-then-words-from
-returns-then-words-from c = rw (too_many c.args.at _ _ c.if-words-from.true)
-
-pub returns-then-words-from-2 : goal.returns-then-words-from-2
-returns-then-words-from-2 c = rw (too_far c.args.at _ _ c.if-words-from.false c.if-words-from-2.true)
-
 pub returns : goal.returns
-returns c =
-    rw (near c.args.at _ _ c.if-words-from.false c.if-words-from-2.false) c.put_all.ensures
+returns g c =
+    let a = c.args in
+    rw (near a.at _ _ c.if-words-from.false c.if-words-from-2.false)
+    (put_part a.words.now a.from.now c.copy_from_slice.new.self a.at (omega arith) c.copy_from_slice.ensures.after)

@@ -20,6 +20,3 @@ returns-then-not-is_image c =
 pub play_on_image-requires : goal.play_on_image-requires
 play_on_image-requires c =
     (was_image c.is_image.result c.is_image.ensures (ap not c.if-not-is_image.false), short_enough c.args.words.now c.if-words-gt-LONGEST_LIST.false)
-
-pub returns : goal.returns
-returns c = c.play_on_image.ensures

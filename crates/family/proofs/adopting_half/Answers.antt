@@ -1,5 +1,4 @@
-use Prim.Native.Nat.{◌+◌, ◌≤◌, ◌<◌}
-use mathlib.Core.Path.{◌≡◌}
+use Prim.Native.Nat.{◌≤◌, ◌<◌}
 use native.Mathlib.Omega.{arith}
 use borrow.Author.Rules.{rules}
 use borrow.Author.Tests.{leb-true}
@@ -8,9 +7,6 @@ use lib.ListN.{get_or}
 use Rattle.rules.proofs.Tests.{all_at}
 use Rattle.tables.proofs.Descendants.{gathered_more}
 use Rattle.family.proofs.adopting_half.Goals as goal
-
-pub loop-k-init : goal.loop-k-init
-loop-k-init c = (search rules, λ a g. g)
 
 pub adopting-grown-requires : goal.adopting-grown-requires
 adopting-grown-requires c =
@@ -32,8 +28,3 @@ loop-k-preserved c =
           rw c.adopting-grown.ensures
           (gathered_more 64 c.args.parents.now a c.loop-k.grown c.loop-k.k inside (lower inside) (c.loop-k.invariant.1 a g)),
     )
-
-pub returns : goal.returns
-returns c =
-    let e : c.loop-k.k ≡ c.args.from + 32 = omega arith in
-    λ a g. rw e at (c.loop-k.invariant.1 a g)

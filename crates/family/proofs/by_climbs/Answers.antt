@@ -3,7 +3,6 @@ use Prim.Native.Nat.{◌-◌, ◌<◌, ◌^◌}
 use lib.Dec.{eqb}
 use Rattle.sets.proofs.Laws.{member_empty, member_with, member_union, member_difference}
 use Rattle.views.specs.Tree.{known_up}
-use Rattle.tables.specs.Reach.{Met}
 use Rattle.tables.proofs.Sorting.{sorting_start, sorting_takes, sorting_falls, sorting_in, sorting_out}
 use Rattle.tables.proofs.Descendants.{gathered_sorted, member_ones}
 use Rattle.family.proofs.by_climbs.Goals as goal

@@ -13,16 +13,10 @@ returns-then-not-has_child c =
     (gathered_alone 64 args.parents.now (args.a % 64) (omega arith) (args.a % 64 + 1) (omega arith)
     (sym c.has_child.ensures ∙ c.if-not-has_child.true)))
 
-pub in_one_pass-requires : goal.in_one_pass-requires
-in_one_pass-requires c = (omega arith, sym c.parents_lower.ensures ∙ c.if-parents_lower.true)
-
 pub returns-then-parents_lower : goal.returns-then-parents_lower
 returns-then-parents_lower c =
     let args = c.args in
     gathered_descends 64 args.parents.now (args.a % 64) c.in_one_pass.result c.in_one_pass.type_inv c.in_one_pass.ensures
-
-pub by_climbs-requires : goal.by_climbs-requires
-by_climbs-requires c = omega arith
 
 pub returns : goal.returns
 returns c =

@@ -7,4 +7,4 @@ use Rattle.family.proofs.parent_in.Goals as goal
 
 pub returns : goal.returns
 returns c =
-    parent_digit 64 c.args.set c.args.up (c.wide-ahead.result + 63) (omega arith) c.requires (ap (λ n. n + 63) c.wide-ahead.ensures)
+    parent_digit 64 c.args.set c.args.up (c.from-ahead.result + 63) (omega arith) c.requires (ap (λ n. n + 63) c.from-ahead.ensures)

@@ -1,28 +1,25 @@
-use Prim.Native.Nat.{◌<◌}
+-- `play_list` meets its contract. Assumes nothing.
 use mathlib.Core.Path.{◌≡◌}
 use native.Mathlib.Omega.{arith}
 use lib.ListN.{length}
+use Rattle.bench.specs.declared.Reply.{Reply}
 use Rattle.bench.specs.Record.{viewed, seen}
 use Rattle.lists.proofs.Turn.{begins, turns, refuses, played}
 use Rattle.lists.proofs.play_list.Goals as goal
 
-pub returns-then-count-gt-LONGEST : goal.returns-then-count-gt-LONGEST
-returns-then-count-gt-LONGEST c = refuses c.args.bench c.args.list.now c.if-count-gt-LONGEST.true
+pub returns-then-list-gt-LONGEST : goal.returns-then-list-gt-LONGEST
+returns-then-list-gt-LONGEST c = rw c.number.ensures (refuses c.args.bench c.args.list.now c.if-list-gt-LONGEST.true)
 
-pub loop-at-init : goal.loop-at-init
-loop-at-init c = (omega arith, begins (viewed c.args.bench) c.args.list.now)
+pub loop-request-init : goal.loop-request-init
+loop-request-init c = begins (viewed c.args.bench) c.args.list.now
 
-pub loop-at-preserved : goal.loop-at-preserved
-loop-at-preserved c =
-    let stands = c.loop-at.invariant.1 in
-    let long = stands.long in
-    let here : c.loop-at.at < length c.loop-at.list = omega arith in (
-      omega arith,
-      turns (viewed c.args.bench) c.args.list.now c.loop-at.at (viewed c.loop-at.reply.bench) c.loop-at.list here stands (seen c.play_one-reply.result)
-          c.play_one-reply.ensures,
-    )
+pub loop-request-preserved : goal.loop-request-preserved
+loop-request-preserved c =
+    let at = c.loop-request in
+    let reply : Reply = record { bench = c.play_in_place-request.new.bench; answer = c.play_in_place-request.result } in
+    turns (viewed c.args.bench) c.args.list.now at.request-index (viewed at.bench) at.list (omega arith) at.invariant (seen reply) c.play_in_place-request.ensures
 
 pub returns : goal.returns
 returns c =
-    let ended : c.loop-at.at ≡ length c.args.list.now = omega arith in
-    played c.args.bench c.loop-at.reply.bench c.args.list.now c.loop-at.list c.if-count-gt-LONGEST.false (rw ended at c.loop-at.invariant.1)
+    let ended : c.loop-request.request-index ≡ length c.args.list.now = omega arith in
+    rw c.number-2.ensures (played c.args.bench c.loop-request.bench c.args.list.now c.loop-request.list c.if-list-gt-LONGEST.false (rw ended at c.loop-request.invariant))

@@ -2,17 +2,10 @@
 use mathlib.Core.Path.{sym, ◌∙◌}
 use Rattle.sets.specs.Sets.{member}
 use Rattle.rows.specs.Rows.{line_for}
-use Rattle.rows.proofs.Asking.{within_held, same_held}
+use Rattle.rows.proofs.Asking.{within_held}
 use Rattle.rows.proofs.held.Goals as goal
 
 pub returns-then-within : goal.returns-then-within
 returns-then-within c =
     let args = c.args in
     within_held args.parents.now args.states.now args.line args.owners args.a (sym c.within.ensures ∙ c.if-within.true)
-
-pub returns : goal.returns
-returns c =
-    let whole = c.whole_line-whole in
-    let args = c.args in
-    c.all_held.ensures
-    ∙ same_held args.parents.now args.states.now args.owners (member whole.result) (line_for args.parents.now args.line args.a) whole.ensures

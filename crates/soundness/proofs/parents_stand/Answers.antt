@@ -12,16 +12,11 @@ pub loop-k-init : goal.loop-k-init
 unfolding all
 loop-k-init c = search rules
 
-pub bounds-table-wide : goal.bounds-table-wide
-bounds-table-wide c =
-    let h = c.requires c.loop-k.k (omega arith) in
-    rw c.wide.ensures (omega arith)
-
 pub loop-k-preserved : goal.loop-k-preserved
 loop-k-preserved c =
     let h = c.requires c.loop-k.k (omega arith) in (
       search rules,
-      rw (add-one, all_more, or_ended, c.loop-k.invariant.1, c.wide.ensures, c.forbidden-table.ensures (get_or c.args.parents.now c.loop-k.k 0) (omega arith)),
+      rw (add-one, all_more, or_ended, c.loop-k.invariant.1, c.from.ensures, c.forbidden-table.ensures (get_or c.args.parents.now c.loop-k.k 0) (omega arith)),
     )
 
 pub returns : goal.returns

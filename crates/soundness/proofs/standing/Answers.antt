@@ -1,22 +1,15 @@
+-- `standing` meets its contract: a number stands in the union of the words where it stands in any. Assumes nothing.
 use borrow.Author.Rules.{rules}
-use lib.ListN.{length}
-use mathlib.Core.Path.{◌≡◌}
-use native.Mathlib.Numerals.{add-one}
-use native.Mathlib.Omega.{arith}
-use Rattle.rules.proofs.Tests.{any_more}
-use Rattle.rules.specs.Tests.{any}
+use mathlib.Core.Path.{◌∙◌, ap, refl}
+use Rattle.std.proofs.lemmas.Iterator.{YieldsList-from_slice}
+use Rattle.std.proofs.lemmas.Iterator.Consumers.{fold_from_yields_List}
+use Rattle.sets.specs.Sets.{member, union}
 use Rattle.sets.proofs.Laws.{member_empty, member_union}
+use Rattle.tables.proofs.Folds.{any_folded}
 use Rattle.soundness.proofs.standing.Goals as goal
-
-pub loop-i-init : goal.loop-i-init
-unfolding any
-loop-i-init c = (search rules, λ k. member_empty k)
-
-pub loop-i-preserved : goal.loop-i-preserved
-loop-i-preserved c =
-    (search rules, λ k. rw (add-one, any_more, c.union-numbers.ensures, member_union, c.loop-i.invariant.1 k))
 
 pub returns : goal.returns
 returns c k =
-    let e : c.loop-i.i ≡ length c.args.words.now = omega arith in
-    rw e at (c.loop-i.invariant.1 k)
+    let words = c.args.words.now in
+    ap (λ s. member s k) (fold_from_yields_List _ union 0 _ c.fold.ensures.ran (YieldsList-from_slice words c.iter.ensures.rest) (λ s x b q k. search rules))
+    ∙ any_folded (λ s. member s k) union 0 (λ s. member s k) 0 _ words refl (member_empty k) (λ s t. member_union s t k)

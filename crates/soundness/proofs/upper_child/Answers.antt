@@ -1,23 +1,19 @@
-use Prim.Native.Nat.{suc, ◌+◌, ◌-◌}
-use mathlib.Core.Path.{◌≡◌, refl}
-use native.Mathlib.Omega.{arith}
+-- `upper_child` meets its contract: a pass over the upper bytes joins their tests. Assumes nothing.
 use borrow.Author.Rules.{rules}
-use Rattle.rules.specs.Tests.{any}
-use Rattle.rules.proofs.Tests.{any_more}
+use mathlib.Core.Bool.{not}
+use mathlib.Core.Path.{◌∙◌, ap}
+use native.Mathlib.Omega.{arith}
+use lib.Dec.{eqb}
+use lib.ListN.{take, drop, length-drop}
+use Rattle.std.proofs.lemmas.Iterator.{YieldsList-from_slice}
+use Rattle.std.proofs.lemmas.List.{length-take-le, get_or-take, get_or-drop}
+use Rattle.rules.proofs.Tests.{any_cong}
+use Rattle.tables.proofs.Folds.{any_passed}
 use Rattle.soundness.proofs.upper_child.Goals as goal
 
-pub loop-k-init : goal.loop-k-init
-unfolding any
-loop-k-init c = (search rules, search rules, refl)
-
-pub loop-k-preserved : goal.loop-k-preserved
-loop-k-preserved c =
-    let more : c.loop-k.k + 1 - 32 ≡ suc (c.loop-k.k - 32) = omega arith in
-    let place : 32 + (c.loop-k.k - 32) ≡ c.loop-k.k = omega arith in (
-      search rules,
-      search rules,
-      rw (more, any_more, place, c.loop-k.invariant.2),
-    )
-
 pub returns : goal.returns
-returns c = let e : c.loop-k.k - 32 ≡ 32 = omega arith in rw e at c.loop-k.invariant.2
+returns c =
+    let parents = c.args.parents.now in
+    any_passed _ (λ p. not (eqb p 0)) 0 {n = 32} _ c.fold.ensures.ran (YieldsList-from_slice (take 32 (drop 32 parents)) c.iter.ensures.rest)
+    (length-take-le 32 (drop 32 parents) (omega (arith, length-drop 32 parents, c.told-parents))) (λ found x b q k. search rules)
+    ∙ any_cong 32 _ _ (λ k l. ap (λ p. not (eqb p 0)) (get_or-take 32 (drop 32 parents) k 0 l ∙ get_or-drop 32 parents k 0))

@@ -13,8 +13,9 @@ use Rattle.dikothelm.proofs.feed.dikothelm_image_play.Goals as goal
 pub returns-then-not-is_playable : goal.returns-then-not-is_playable
 returns-then-not-is_playable c =
     let a = c.args in
-    none_moved _ _ _ a.actions.now a.owners.now a.progress.now a.out.now
-    (was_none c.is_playable.result c.is_playable.ensures (ap not c.if-not-is_playable.true))
+    rw c.number.ensures
+    (none_moved _ _ _ a.actions.now a.owners.now a.progress.now a.out.now
+    (was_none c.is_playable.result c.is_playable.ensures (ap not c.if-not-is_playable.true)))
 
 pub player_of-player-requires : goal.player_of-player-requires
 player_of-player-requires c =
@@ -39,5 +40,6 @@ returns c =
     let states_long : length b.states ≡ 64 = search (rules, c.feed-fed.type_inv.1.1.0.1.1.0.1.1) in
     let reads_long : length b.reads ≡ 128 = search (rules, c.feed-fed.type_inv.1.1.0.1.1.0.1.1.1) in
     let writes_long : length b.writes ≡ 128 = search (rules, c.feed-fed.type_inv.1.1.0.1.1.0.1.1.1.1) in
-    chunk_played a.actions.now a.owners.now a.progress.now ok c.player_of-player.result a.input.now a.out.now c.feed-fed.result
-    c.player_of-player.ensures c.feed-fed.ensures c.store.ensures parents_long states_long reads_long writes_long c.put_progress.ensures
+    rw c.number-2.ensures
+    (chunk_played a.actions.now a.owners.now a.progress.now ok c.player_of-player.result a.input.now a.out.now c.feed-fed.result
+    c.player_of-player.ensures c.feed-fed.ensures c.store.ensures parents_long states_long reads_long writes_long c.put_progress.ensures)

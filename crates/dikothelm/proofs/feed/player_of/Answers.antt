@@ -19,5 +19,5 @@ bounds-progress-1 c =
 pub returns : goal.returns
 returns c =
     let a = c.args in
-    player_stands a.actions.now a.owners.now a.progress.now c.requires c.bench_of-bench.result c.line_count.result _
-    c.bench_of-bench.ensures c.line_count.ensures refl
+    player_stands a.actions.now a.owners.now a.progress.now c.requires c.bench_of.result c.line_count.result _
+    c.bench_of.ensures c.line_count.ensures refl

@@ -4,7 +4,6 @@ use Prim.Native.Nat.{ℕ}
 use Rattle.sets.specs.Sets.{member, union}
 use Rattle.sets.proofs.Laws.{member_empty, member_union}
 use Rattle.views.specs.Reach.{waits_for}
-use Rattle.tables.specs.Reach.{Met}
 use Rattle.tables.proofs.Sorting.{sorting_start, sorting_takes, sorting_falls, sorting_in}
 use Rattle.tables.proofs.Held.{held_end, held_refused}
 use Rattle.heirs.proofs.held.all_held.Goals as goal

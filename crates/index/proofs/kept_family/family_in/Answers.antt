@@ -1,6 +1,4 @@
-use Prim.Native.Nat.{◌-◌, ◌<◌}
 use mathlib.Core.Path.{◌∙◌}
-use borrow.Author.Rules.{rules}
 use Rattle.sets.proofs.Laws.{least_inside}
 use Rattle.index.proofs.Families.{gathering_start, gathering_turn, gathering_falls, gathering_end}
 use Rattle.index.proofs.kept_family.family_in.Goals as goal
@@ -10,20 +8,13 @@ loop-rest-init c =
     let a = c.args in
     gathering_start a.index.now a.a c.with-gone.result c.difference-rest.result c.requires
     c.with-gone.ensures
-    c.difference-rest.ensures
+    (c.difference-rest.ensures ∙ rw c.children.ensures)
     c.difference-rest.type_inv
 
-pub offset_bounds-index-k : goal.offset_bounds-index-k
-offset_bounds-index-k c =
+pub children-requires-in-loop-rest : goal.children-requires-in-loop-rest
+children-requires-in-loop-rest c =
     -- the number that a turn takes is of the table
-    let known : c.least-k.result < 64 = rw c.least-k.ensures (least_inside 64 c.loop-rest.rest c.loop-rest.invariant.rest_fits c.loop-rest-test.true) in
-    let l = known in search rules
-
-pub bounds-index-k : goal.bounds-index-k
-bounds-index-k c =
-    -- the number that a turn takes is of the table
-    let known : c.least-k.result < 64 = rw c.least-k.ensures (least_inside 64 c.loop-rest.rest c.loop-rest.invariant.rest_fits c.loop-rest-test.true) in
-    let l = known in search rules
+    rw c.least-k.ensures (least_inside 64 c.loop-rest.rest c.loop-rest.invariant.rest_fits c.loop-rest-test.true)
 
 pub loop-rest-smaller : goal.loop-rest-smaller
 loop-rest-smaller c =
@@ -45,7 +36,7 @@ loop-rest-preserved c =
     c.least-k.ensures
     c.with-gone-in-loop-rest.ensures
     c.difference-rest-in-loop-rest.result
-    (c.difference-rest-in-loop-rest.ensures ∙ rw c.union.ensures)
+    (c.difference-rest-in-loop-rest.ensures ∙ rw (c.union.ensures, c.children-in-loop-rest.ensures))
     c.difference-rest-in-loop-rest.type_inv
 
 pub returns : goal.returns

@@ -1,43 +1,20 @@
-use Rattle.tables.proofs.Taken.{taken_least}
-use Rattle.index.proofs.Walks.{joining_start, joining_turn, joining_end}
+use mathlib.Core.Path.{◌∙◌}
 use borrow.Author.Rules.{rules}
+use Rattle.tables.proofs.Taken.{taken_next}
+use Rattle.index.proofs.Walks.{joining_start, joining_turn, joining_end}
 use Rattle.index.proofs.places.places_of.Goals as goal
 
-pub loop-rest-init : goal.loop-rest-init
-loop-rest-init c = joining_start c.args.index.now c.args.numbers c.ranges.numbers.fits
+pub loop-k-init : goal.loop-k-init
+loop-k-init c = rw c.into_iter-k-iterator.ensures.into_iter_gives (joining_start c.args.index.now c.args.numbers c.ranges.numbers.fits)
 
-pub overflow_add-k : goal.overflow_add-k
-overflow_add-k c =
-    -- the number that a turn takes
-    let take = taken_least 64 c.loop-rest.rest c.least-k.result c.least-k.ensures c.loop-rest.invariant.rest_fits c.loop-rest-test.true in
-    let known = take.known in search rules
+pub places-requires : goal.places-requires
+places-requires c = (taken_next c.loop-k.invariant.rest_fits c.in-Some.ensures.steps).known
 
-pub offset_bounds-index-k : goal.offset_bounds-index-k
-offset_bounds-index-k c =
-    -- the number that a turn takes
-    let take = taken_least 64 c.loop-rest.rest c.least-k.result c.least-k.ensures c.loop-rest.invariant.rest_fits c.loop-rest-test.true in
-    let known = take.known in search rules
-
-pub bounds-index-k : goal.bounds-index-k
-bounds-index-k c =
-    -- the number that a turn takes
-    let take = taken_least 64 c.loop-rest.rest c.least-k.result c.least-k.ensures c.loop-rest.invariant.rest_fits c.loop-rest-test.true in
-    let known = take.known in search rules
-
-pub loop-rest-smaller : goal.loop-rest-smaller
-loop-rest-smaller c =
-    -- the number that a turn takes
-    let take = taken_least 64 c.loop-rest.rest c.least-k.result c.least-k.ensures c.loop-rest.invariant.rest_fits c.loop-rest-test.true in
-    rw c.without_least-rest.ensures take.falls
-
-pub loop-rest-preserved : goal.loop-rest-preserved
-loop-rest-preserved c =
-    -- the number that a turn takes
-    let take = taken_least 64 c.loop-rest.rest c.least-k.result c.least-k.ensures c.loop-rest.invariant.rest_fits c.loop-rest-test.true in
-    rw c.without_least-rest.ensures
-    (joining_turn c.args.index.now c.args.numbers c.loop-rest.places c.loop-rest.rest c.least-k.result _ c.union-places.result c.loop-rest.invariant take
-    (search (rules, c.union-places.type_inv)) c.union-places.ensures)
+pub loop-k-preserved : goal.loop-k-preserved
+loop-k-preserved c =
+    joining_turn c.args.index.now c.args.numbers c.loop-k.places c.loop-k.k-iterator.0 c.in-Some.k _ c.union-places.result c.loop-k.invariant
+    (taken_next c.loop-k.invariant.rest_fits c.in-Some.ensures.steps) (search (rules, c.union-places.type_inv)) (c.union-places.ensures ∙ rw c.places.ensures)
 
 pub returns : goal.returns
 returns c =
-    joining_end c.args.index.now c.args.numbers c.loop-rest.places c.loop-rest.rest c.loop-rest.invariant c.loop-rest-test.false
+    joining_end c.args.index.now c.args.numbers c.loop-k.places c.loop-k.k-iterator.0 c.loop-k.invariant c.in-None.ensures.steps.0

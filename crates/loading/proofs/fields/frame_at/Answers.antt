@@ -1,29 +1,17 @@
-use mathlib.Core.Path.{◌≡◌, sym}
-use native.Mathlib.Omega.{arith}
-use borrow.Author.Rules.{rules}
-use Rattle.rules.specs.Tests.{all}
-use Rattle.forms.specs.WellShaped.{digits_at}
-use Rattle.loading.proofs.ReadDigits.{digits_more}
-use Rattle.loading.proofs.ReadFrames.{frame_past}
+-- `frame_at` meets its contract: the digits are those of a part of the text. Assumes nothing.
+use Rattle.std.proofs.Common.{◌≡◌, ◌+◌, ◌-◌, ◌∙◌, take, drop, ltb, rules, tests, arith}
+use Rattle.std.proofs.lemmas.Iterator.{YieldsList-from_slice}
+use Rattle.std.proofs.lemmas.Iterator.Search.{all_from_yields_List}
+use Rattle.digits.proofs.Worth.{digit_known}
+use Rattle.forms.specs.WellShaped.{digit_of, digits_at}
+use Rattle.loading.proofs.ReadDigits.{digits_part}
 use Rattle.loading.proofs.fields.frame_at.Goals as goal
-
-pub returns-then-text-at : goal.returns-then-text-at
-returns-then-text-at c =
-    sym (frame_past c.args.text.now c.args.at c.args.n (omega arith))
-
-pub returns-then-text-at-2 : goal.returns-then-text-at-2
-returns-then-text-at-2 c =
-    sym (frame_past c.args.text.now c.args.at c.args.n (omega arith))
-
-pub loop-j-init : goal.loop-j-init
-unfolding digits_at all
-loop-j-init c = search rules
-
-pub loop-j-preserved : goal.loop-j-preserved
-loop-j-preserved c =
-    (search rules, rw (digits_more, c.value.ensures, c.loop-j.invariant.1))
 
 pub returns : goal.returns
 returns c =
-    let e : c.loop-j.j ≡ c.args.n = omega arith in
-    rw (c.loop-j.invariant.1, e)
+    let a = c.args in
+    let part = take (a.at + a.n - a.at) (drop a.at a.text.now) in
+    let there = all_from_yields_List (λ d. ltb (digit_of d) 16) _ _ _ c.all-ok.ensures.ran (YieldsList-from_slice part cc) (λ x b q k. search (rules, tests, digit_known)) in
+    let passed : a.at + a.n - a.at ≡ a.n = omega arith in
+    let digits : c.all-ok.result ≡ digits_at a.text.now a.at a.n = rw passed at there ∙ digits_part a.text.now a.at a.n (omega arith) in
+    rw digits

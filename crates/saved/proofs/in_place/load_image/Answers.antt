@@ -4,6 +4,8 @@ use mathlib.Core.Bool.{not}
 use mathlib.Core.Path.{ap}
 use mathlib.Core.Path.{◌≡◌}
 use mathlib.Core.Bool.{true}
+use borrow.Author.Rules.{rules}
+use Rattle.marks.specs.Answers.{answer_number}
 use Rattle.image.specs.Image.{is_image}
 use Rattle.image.proofs.Images.{was_image, was_none}
 use Rattle.saved.proofs.InPlaceLaws.{none_loaded, cleared_zeros, accepted_loaded, refused_loaded}
@@ -21,16 +23,18 @@ read_into-answer-requires c =
     let a = c.args in
     cleared_zeros a.text.now a.actions.now a.owners.now image c.clear.ensures
 
-pub returns-then-answer-ne-ACCEPTED : goal.returns-then-answer-ne-ACCEPTED
-returns-then-answer-ne-ACCEPTED c =
-    -- on the way on from the test of the lengths
-    let image : let a = c.args in is_image a.actions.now a.owners.now ≡ true = was_image c.is_image.result c.is_image.ensures (ap not c.if-not-is_image.false) in
+pub returns-then-is_err : goal.returns-then-is_err
+returns-then-is_err c =
     let a = c.args in
-    refused_loaded a.text.now a.actions.now a.owners.now image c.read_into-answer.ensures c.if-answer-ne-ACCEPTED.true c.clear-then-answer-ne-ACCEPTED.ensures
+    -- on the way on from the test of the lengths
+    let image : is_image a.actions.now a.owners.now ≡ true = was_image c.is_image.result c.is_image.ensures (ap not c.if-not-is_image.false) in
+    let refused : answer_number c.read_into-answer.result ≡ 0 → ⊥ = search rules in
+    refused_loaded a.text.now a.actions.now a.owners.now image c.read_into-answer.ensures refused c.clear-then-is_err.ensures
 
-pub returns-else-answer-ne-ACCEPTED : goal.returns-else-answer-ne-ACCEPTED
-returns-else-answer-ne-ACCEPTED c =
-    -- on the way on from the test of the lengths
-    let image : let a = c.args in is_image a.actions.now a.owners.now ≡ true = was_image c.is_image.result c.is_image.ensures (ap not c.if-not-is_image.false) in
+pub returns-else-is_err : goal.returns-else-is_err
+returns-else-is_err c =
     let a = c.args in
-    accepted_loaded a.text.now a.actions.now a.owners.now image c.read_into-answer.ensures c.if-answer-ne-ACCEPTED.false
+    -- on the way on from the test of the lengths
+    let image : is_image a.actions.now a.owners.now ≡ true = was_image c.is_image.result c.is_image.ensures (ap not c.if-not-is_image.false) in
+    let accepted : answer_number c.read_into-answer.result ≡ 0 = search rules in
+    accepted_loaded a.text.now a.actions.now a.owners.now image c.read_into-answer.ensures accepted

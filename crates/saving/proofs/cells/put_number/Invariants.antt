@@ -1,14 +1,11 @@
--- `put_number` meets its contract. The loop's invariant: the digits that are left, written from `place` on, make the whole number, and the buffer is as
--- long as it was. The measure is how many digits are left. Assumes nothing.
+-- `put_number` meets its contract. The loop's invariant: the digits that are left, written behind those passed, make the whole number, and the buffer is as
+-- long as it was. Assumes nothing.
 use mathlib.Core.Path.{◌≡◌}
-use Prim.Native.Nat.{◌+◌, ◌≤◌}
+use Prim.Native.Nat.{◌+◌, ◌-◌, ◌≤◌}
 use lib.ListN.{length}
 use lib.Seq.{sets}
 use Rattle.forms.specs.Text.{hex_of}
 use Rattle.saving.proofs.cells.put_number.Given as goal
 
-abbrev pub invariant-loop-left : goal.invariant-loop-left
-invariant-loop-left l = (sets l.out l.place (hex_of l.left l.x) ≡ sets l.initial.out l.at (hex_of l.n l.x)) × (l.place + l.left ≡ l.at + l.n) × (l.left ≤ l.n) × (length l.out ≡ length l.initial.out)
-
-abbrev pub decreases-loop-left : goal.decreases-loop-left
-decreases-loop-left l = l.left
+abbrev pub invariant-loop-k : goal.invariant-loop-k
+invariant-loop-k l = (l.k ≤ l.n) × (sets l.out (l.at + l.k) (hex_of (l.n - l.k) l.x) ≡ sets l.initial.out l.at (hex_of l.n l.x)) × (length l.out ≡ length l.initial.out)

@@ -18,31 +18,22 @@ use Rattle.soundness.proofs.chains.climb.Goals as goal
 pub bounds-parents-least : goal.bounds-parents-least
 bounds-parents-least c =
     -- the number that the climb starts from
-    let first = taken_least 64 c.args.rest.now c.least.result c.least.ensures (search rules) c.requires.0 in
+    let first = taken_least 64 c.args.rest c.least.result c.least.ensures (search rules) c.requires.0 in
     first.known
 
 pub loop-up-init : goal.loop-up-init
 loop-up-init c =
     -- the number that the climb starts from
-    let first = taken_least 64 c.args.rest.now c.least.result c.least.ensures (search rules) c.requires.0 in
+    let first = taken_least 64 c.args.rest c.least.result c.least.ensures (search rules) c.requires.0 in
     let parents = c.args.parents.now in
-    let rest = c.args.rest.now in
+    let rest = c.args.rest in
     let k = c.least.result in
     let known = first.known in
-    rw (c.wide-up.ensures, c.without_least-left.ensures, ← c.least.ensures) (
+    rw (c.from-up.ensures, c.without_least-left.ensures, ← c.least.ensures) (
       c.requires.1 k known,
       without_falls 64 rest k known first.was,
       climbing_turn 64 (up_of parents) rest (parents_known 64 parents c.requires.1) rest k (climbing_start 64 (up_of parents) rest k known),
     )
-
-pub names_one-requires : goal.names_one-requires
-names_one-requires c = c.loop-up.invariant.0
-
-pub overflow_sub-x : goal.overflow_sub-x
-overflow_sub-x c =
-    -- the number that the climb has come to, and which is left
-    let next : (0 < c.loop-up.up) × (member c.loop-up.left (c.loop-up.up - 1) ≡ true) × (parent_of c.loop-up.up ≡ some (c.loop-up.up - 1)) = names_one (member c.loop-up.left) c.loop-up.up (sym c.names_one.ensures ∙ c.loop-up-test.true) in
-    let some_byte = next.0 in omega arith
 
 pub loop-up-smaller : goal.loop-up-smaller
 loop-up-smaller c =
@@ -66,23 +57,20 @@ loop-up-preserved c =
     let known = next_known in
     let part = c.loop-up.invariant.1 in
     let less = falls in
-    rw (c.wide-up-in-loop-up.ensures, mod-eq_of_lt known) (
+    rw (c.from-up-in-loop-up.ensures, mod-eq_of_lt known) (
       c.requires.1 (c.loop-up.up - 1) known,
       omega arith,
       rw left_next
-          (climbing_turn 64 (up_of parents) c.args.rest.now (parents_known 64 parents c.requires.1) c.loop-up.left (c.loop-up.up - 1)
+          (climbing_turn 64 (up_of parents) c.args.rest (parents_known 64 parents c.requires.1) c.loop-up.left (c.loop-up.up - 1)
           (rw next.2 at c.loop-up.invariant.2)),
     )
-
-pub names_one-requires-2 : goal.names_one-requires-2
-names_one-requires-2 c = c.loop-up.invariant.0
 
 pub returns-then-names_one : goal.returns-then-names_one
 returns-then-names_one c =
     record {
       fewer = λ t. clash false t refl;
       endless = λ t.
-          climbing_ring 64 (up_of c.args.parents.now) c.args.rest.now c.loop-up.left (parent_of c.loop-up.up) c.loop-up.invariant.2
+          climbing_ring 64 (up_of c.args.parents.now) c.args.rest c.loop-up.left (parent_of c.loop-up.up) c.loop-up.invariant.2
           (sym c.names_one.ensures ∙ c.loop-up-test.false)
           (sym c.names_one-2.ensures ∙ c.if-names_one.true);
     }
@@ -92,7 +80,7 @@ returns c =
     record {
       fewer = λ t. (
         c.loop-up.invariant.1,
-        climbing_ends 64 (up_of c.args.parents.now) c.args.rest.now c.loop-up.left (parent_of c.loop-up.up) c.loop-up.invariant.2 c.requires.2
+        climbing_ends 64 (up_of c.args.parents.now) c.args.rest c.loop-up.left (parent_of c.loop-up.up) c.loop-up.invariant.2 c.requires.2
             (sym c.names_one-2.ensures ∙ c.if-names_one.false),
       );
       endless = λ t. clash true refl t;

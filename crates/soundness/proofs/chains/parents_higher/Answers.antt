@@ -1,7 +1,5 @@
 use borrow.Author.Rules.{rules}
-use mathlib.Core.Path.{◌≡◌}
 use native.Mathlib.Numerals.{add-one}
-use native.Mathlib.Omega.{arith}
 use Rattle.rules.proofs.Tests.{all_more}
 use Rattle.rules.specs.Tests.{all}
 use Rattle.soundness.proofs.chains.parents_higher.Goals as goal
@@ -11,7 +9,4 @@ unfolding all
 loop-k-init c = search rules
 
 pub loop-k-preserved : goal.loop-k-preserved
-loop-k-preserved c = (search rules, rw (add-one, all_more, c.wide.ensures, c.loop-k.invariant.1))
-
-pub returns : goal.returns
-returns c = let e : c.loop-k.k ≡ 64 = omega arith in rw e at c.loop-k.invariant.1
+loop-k-preserved c = (search rules, rw (add-one, all_more, c.from.ensures, c.loop-k.invariant.1))

@@ -6,5 +6,5 @@ use mathlib.Core.Path.{◌≡◌}
 use Rattle.rules.specs.Tests.{all}
 use Rattle.soundness.proofs.draining.all_zero.Given as goal
 
-abbrev pub invariant-loop-k : goal.invariant-loop-k
-invariant-loop-k l = (l.k ≤ 64) × (eqb l.broken 0 ≡ all l.k (λ j. eqb (get_or l.table (get_or l.states j 0) 0) 0))
+abbrev pub invariant-loop-state : goal.invariant-loop-state
+invariant-loop-state l = (l.state-index ≤ 64) × (eqb l.broken 0 ≡ all l.state-index (λ j. eqb (get_or l.table (get_or l.states j 0) 0) 0))

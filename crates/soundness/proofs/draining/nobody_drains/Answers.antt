@@ -1,17 +1,10 @@
+-- `nobody_drains` meets its contract: a pass over the bytes joins their tests. Assumes nothing.
 use borrow.Author.Rules.{rules}
-use mathlib.Core.Path.{◌≡◌}
-use native.Mathlib.Numerals.{add-one}
-use native.Mathlib.Omega.{arith}
-use Rattle.rules.proofs.Tests.{all_more}
-use Rattle.rules.specs.Tests.{all}
+use lib.Dec.{leb}
+use Rattle.std.proofs.lemmas.Iterator.{YieldsList-from_slice}
+use Rattle.tables.proofs.Folds.{all_passed}
 use Rattle.soundness.proofs.draining.nobody_drains.Goals as goal
 
-pub loop-k-init : goal.loop-k-init
-unfolding all
-loop-k-init c = search rules
-
-pub loop-k-preserved : goal.loop-k-preserved
-loop-k-preserved c = (search rules, rw (add-one, all_more, c.loop-k.invariant.1))
-
 pub returns : goal.returns
-returns c = let e : c.loop-k.k ≡ 64 = omega arith in rw e at c.loop-k.invariant.1
+returns c =
+    all_passed _ (λ s. leb s 2) 0 _ c.fold.ensures.ran (YieldsList-from_slice c.args.states.now c.iter.ensures.rest) c.told-states (λ ok x b q k. search rules)

@@ -23,15 +23,9 @@ returns-then-nobody_drains c =
     (all_by 64 (drain_fits 64 states (member numbers)) (λ k l. or_left (leb (get_or states k 0) 2) _ (all_at 64 (λ j. leb (get_or states j 0) 2) nobody k l)))
     ∙ and-true (of_members 64 numbers (in_use states)))
 
-pub missing-absent-requires : goal.missing-absent-requires
-missing-absent-requires c = c.requires
-
 pub returns-then-absent-eq0 : goal.returns-then-absent-eq0
 returns-then-absent-eq0 c =
     rw (none_with_free 64 c.args.states.now c.args.numbers, ← c.missing-absent.ensures 0 (omega arith), c.if-absent-eq0.true)
-
-pub all_zero-requires : goal.all_zero-requires
-all_zero-requires c = c.requires
 
 pub returns : goal.returns
 returns c =

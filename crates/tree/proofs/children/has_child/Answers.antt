@@ -1,17 +1,10 @@
-use mathlib.Core.Path.{◌≡◌}
-use native.Mathlib.Numerals.{add-one}
-use native.Mathlib.Omega.{arith}
+-- `has_child` meets its contract: a pass over the bytes joins their tests. Assumes nothing.
 use borrow.Author.Rules.{rules}
-use Rattle.rules.specs.Tests.{any}
-use Rattle.rules.proofs.Tests.{any_more}
+use lib.Dec.{eqb}
+use Rattle.std.proofs.lemmas.Iterator.{YieldsList-from_slice}
+use Rattle.tables.proofs.Folds.{any_passed}
 use Rattle.tree.proofs.children.has_child.Goals as goal
 
-pub loop-k-init : goal.loop-k-init
-unfolding any
-loop-k-init c = search rules
-
-pub loop-k-preserved : goal.loop-k-preserved
-loop-k-preserved c = (search rules, rw (add-one, any_more, c.loop-k.invariant.1))
-
 pub returns : goal.returns
-returns c = let e : c.loop-k.k ≡ 64 = omega arith in rw e at c.loop-k.invariant.1
+returns c =
+    any_passed _ (λ p. eqb p c.args.parent) 0 _ c.fold.ensures.ran (YieldsList-from_slice c.args.parents.now c.iter.ensures.rest) c.told-parents (λ found x b q k. search rules)

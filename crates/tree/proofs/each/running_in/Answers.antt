@@ -1,5 +1,3 @@
-use mathlib.Core.Path.{◌≡◌}
-use native.Mathlib.Omega.{arith}
 use borrow.Author.Rules.{rules}
 use borrow.Author.Tests.{eq-eqb, ne_eqb}
 use lib.ListN.{get_or}
@@ -25,6 +23,3 @@ loop-k-preserved c =
             (taken_out (runs states) c.loop-k.running c.loop-k.k (ne_eqb (get_or states c.loop-k.k 0) 1 w.if-states-k-eq-RUNNING.false) c.loop-k.invariant.1)
       ],
     )
-
-pub returns : goal.returns
-returns c = let e : c.loop-k.k ≡ 64 = omega arith in λ k l. c.loop-k.invariant.1.done k (omega arith)

@@ -1,24 +1,19 @@
-use Rattle.std.proofs.Common.{◌≡◌, refl, sym, ◌∙◌, arith, length}
+use Rattle.std.proofs.Common.{sym, ◌∙◌, arith, ◌≡◌, length}
 use Rattle.std.proofs.lemmas.Result.{IfOk-weaker}
 use Rattle.bench.specs.Record.{viewed}
 use Rattle.trials.proofs.Texts.{text_more, text_ended}
 use Rattle.trials.proofs.session.played.Goals as goal
 
-pub loop-k-init : goal.loop-k-init
-loop-k-init g c = (omega arith, refl)
-
-pub loop-k-preserved : goal.loop-k-preserved
-loop-k-preserved g c =
-    let text = c.args.text.now in (
-      omega arith,
-      rw (c.in_ok-b.ensures, c.read_on-r.ensures, ← text_more (viewed c.loop-k.b) c.loop-k.r text c.loop-k.k c.loop-k-test.true) c.loop-k.invariant.1,
-    )
+pub loop-c-preserved : goal.loop-c-preserved
+loop-c-preserved g c =
+    rw (c.in_ok-b.ensures, c.read_on-reading.ensures, ← text_more (viewed c.loop-c.b) c.loop-c.reading c.args.text.now c.loop-c.c-index c.loop-c-test.true)
+    c.loop-c.invariant
 
 -- at the end nothing is left of the text
 pub returns : goal.returns
 returns g c =
     let text = c.args.text.now in
-    let e : c.loop-k.k ≡ length text = omega arith in
+    let e : c.loop-c.c-index ≡ length text = omega arith in
     IfOk-weaker c.after_read.result _ _
-    (λ last done. done ∙ sym (text_ended (viewed c.loop-k.b) c.loop-k.r text) ∙ (rw (e, c.begun-r.ensures) at c.loop-k.invariant.1))
+    (λ last done. done ∙ sym (text_ended (viewed c.loop-c.b) c.loop-c.reading text) ∙ (rw e at c.loop-c.invariant))
     c.after_read.ensures

@@ -1,8 +1,0 @@
--- `place` meets its contract: each mode has its own. Assumes nothing.
-use Rattle.steps.proofs.words.place.Goals as goal
-
-pub returns-then-is_write : goal.returns-then-is_write
-returns-then-is_write c = rw c.if-is_write.true
-
-pub returns : goal.returns
-returns c = rw c.if-is_write.false
