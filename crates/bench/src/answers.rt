@@ -19,7 +19,7 @@ use tree::children::running_child;
 
 impl Bench {
     // All numbers that stand in a read set or in a write set.
-    pub(crate) fn standing(&self) -> u64
+    pub fn standing(&self) -> u64
         ensures { Standing self.now.reads self.now.writes result }
     {
         sets::union(
@@ -29,7 +29,7 @@ impl Bench {
     }
 
     // The state's byte of numbers that were aborted with a: they drain under a while one of them stands in a set, and are free when none does.
-    pub(crate) fn drain_byte(&self, numbers: u64, a: u32) -> u8
+    pub fn drain_byte(&self, numbers: u64, a: u32) -> u8
         ensures { DrainByte self.now.reads self.now.writes numbers a result }
     {
         let owners = self.standing();
@@ -53,14 +53,14 @@ impl Bench {
         Err(Refusal::Unsound)
     }
 
-    pub(crate) fn open_top_answer(&self, n: u32) -> Answer
+    pub fn open_top_answer(&self, n: u32) -> Answer
         ensures { answer_number result ≡ answer_of read_write (viewed self.now) (open_top n) }
     {
         self.only_if_sound()?;
         open_top_row(&self.states, n)
     }
 
-    pub(crate) fn open_sub_answer(&self, n: u32, p: u32) -> Answer
+    pub fn open_sub_answer(&self, n: u32, p: u32) -> Answer
         ensures { answer_number result ≡ answer_of read_write (viewed self.now) (open_sub n p) }
     {
         self.only_if_sound()?;
@@ -68,7 +68,7 @@ impl Bench {
     }
 
     // Read or write: the rows of the numbers in the sets of the conflicting modes.
-    pub(crate) fn ask_answer(&self, is_write: bool, a: u32, i: u32) -> Answer
+    pub fn ask_answer(&self, is_write: bool, a: u32, i: u32) -> Answer
         ensures { answer_number result ≡ answer_of read_write (viewed self.now) (ask (mode_of is_write) a i) }
     {
         self.only_if_sound()?;
@@ -77,7 +77,7 @@ impl Bench {
         looked_up_ask_row(&self.parents, &self.states, owners, a, i)
     }
 
-    pub(crate) fn commit_answer(&self, a: u32) -> Answer
+    pub fn commit_answer(&self, a: u32) -> Answer
         ensures { answer_number result ≡ answer_of read_write (viewed self.now) (commit a) }
     {
         self.only_if_sound()?;
@@ -85,7 +85,7 @@ impl Bench {
         commit_row(&self.states, busy, a)
     }
 
-    pub(crate) fn abort_answer(&self, a: u32) -> Answer
+    pub fn abort_answer(&self, a: u32) -> Answer
         ensures { answer_number result ≡ answer_of read_write (viewed self.now) (abort a) }
     {
         self.only_if_sound()?;
@@ -93,7 +93,7 @@ impl Bench {
     }
 
     // Quiet, where `group` are said to be the numbers that drain under a.
-    pub(crate) fn quiet_answer(&self, group: u64, a: u32, i: u32) -> Answer
+    pub fn quiet_answer(&self, group: u64, a: u32, i: u32) -> Answer
         ensures { answer_number result
             ≡ quiet_found self.now.parents self.now.states self.now.reads self.now.writes group a i }
     {

@@ -2,7 +2,6 @@
 // frames. A line for each text.
 use crate::benches;
 use crate::tally::Tally;
-use crate::texts::text_of;
 use bench::Bench;
 use std::io;
 use trials::draw::Draws;
@@ -20,22 +19,19 @@ fn at_place(tally: &mut Tally, text: &mut [u8], place: usize) {
 }
 
 // The text of a bench, changed at each place that is a multiple of `stride`.
-fn changes_of(
-    rt: &(impl Print + AllocGlobal),
-    b: Bench,
-    stride: usize,
-    sum: u64,
-) -> io::Result<u64> {
-    let mut text = text_of(rt.alloc(), b)?;
+fn changes_of(rt: &impl Print, b: Bench, stride: usize, sum: u64) -> io::Result<u64> {
+    let mut text = [0u8; 5312];
+    let reply = saved::save(b, &mut text);
+    let count = reply.count.min(5312);
     let mut tally = Tally::none_yet(sum);
-    for place in (0..text.len()).step_by(stride.max(1)) {
-        at_place(&mut tally, text.as_mut_slice(), place);
+    for place in (0..count).step_by(stride.max(1)) {
+        at_place(&mut tally, &mut text[..count], place);
     }
-    tally.show(rt, text.len() as u64)?;
+    tally.show(rt, count as u64)?;
     Ok(tally.sum)
 }
 
-pub(crate) fn changes(rt: &(impl Print + AllocGlobal), start: u64) -> io::Result<u64> {
+pub(crate) fn changes(rt: &impl Print, start: u64) -> io::Result<u64> {
     let mut draws = Draws { last: 1 };
     let walked = benches::walked(Bench::empty(), 100, &mut draws);
     let sum = changes_of(rt, benches::one_top(), 1, start)?;

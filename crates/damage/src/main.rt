@@ -10,39 +10,27 @@ mod tally;
 mod texts;
 
 use bench::Bench;
-use std::alloc::{AllocError, Global};
 use std::io;
 use tally::Tally;
 use trials::draw::Draws;
 
 // The text of a bench with damage, 20 times, each loaded.
-fn load_twenty(
-    alloc: Global,
-    b: Bench,
-    tally: &mut Tally,
-    draws: &mut Draws,
-) -> Result<(), AllocError> {
-    let text = texts::text_of(alloc, b)?;
+fn load_twenty(b: Bench, tally: &mut Tally, draws: &mut Draws) {
+    let text = texts::text_of(b);
     for _ in 0..20 {
-        let damaged = texts::damaged(alloc, text.as_slice(), draws)?;
+        let damaged = texts::damaged(text.as_slice(), draws);
         tally.load(damaged.as_slice());
     }
-    Ok(())
 }
 
 // Texts of 200 benches on walks from an empty bench, 50 on each, two requests from one to the next, and their line.
-fn block(
-    rt: &(impl Print + AllocGlobal),
-    number: u64,
-    sum: u64,
-    draws: &mut Draws,
-) -> io::Result<u64> {
+fn block(rt: &impl Print, number: u64, sum: u64, draws: &mut Draws) -> io::Result<u64> {
     let mut tally = Tally::none_yet(sum);
     for _ in 0..4 {
         let mut b = Bench::empty();
         for _ in 0..50 {
             b = benches::walked(b, 2, draws);
-            load_twenty(rt.alloc(), b, &mut tally, draws)?;
+            load_twenty(b, &mut tally, draws);
         }
     }
     tally.show(rt, number)?;

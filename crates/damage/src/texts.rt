@@ -1,24 +1,56 @@
 // Texts of benches, and the ways of damaging one.
 use crate::draw::{byte_of, place_of};
 use bench::Bench;
-use std::alloc::{AllocError, Global};
 use trials::draw::Draws;
 
-// The text of a bench.
-pub(crate) fn text_of(alloc: Global, b: Bench) -> Result<Vec<u8>, AllocError> {
-    let mut text = vec![in alloc; 0u8; 5312]?;
-    let reply = saved::save(b, text.as_mut_slice());
-    text.truncate(reply.count);
-    Ok(text)
+// A short text: the first `count` bytes are the text's.
+#[derive(Clone, Copy)]
+pub(crate) struct Text {
+    bytes: [u8; 512],
+    count: usize,
+}
+
+impl Text {
+    pub(crate) fn as_slice(&self) -> &[u8] {
+        &self.bytes[..self.count.min(512)]
+    }
+
+    // The part comes behind the text, as far as there is room.
+    fn add(&mut self, part: &[u8]) {
+        let start = self.count.min(512);
+        let length = part.len().min(512 - start);
+        self.bytes[start..start + length].copy_from_slice(&part[..length]);
+        self.count = start + length;
+    }
+
+    // The byte at a place, where the text has that place.
+    fn change(&mut self, place: usize, byte: u8) {
+        if let Some(at) = self.bytes[..self.count.min(512)].get_mut(place) {
+            *at = byte;
+        }
+    }
+}
+
+// The text of a bench on a walk, which has at most 440 bytes.
+pub(crate) fn text_of(b: Bench) -> Text {
+    let mut bytes = [0u8; 512];
+    let reply = saved::save(b, &mut bytes);
+    Text {
+        bytes,
+        count: reply.count,
+    }
 }
 
 // The parts, one behind the other.
-fn joined(alloc: Global, parts: &[&[u8]]) -> Result<Vec<u8>, AllocError> {
-    let mut text = Vec::new(alloc);
+fn joined(parts: &[&[u8]]) -> Text {
+    let mut text = Text {
+        bytes: [0; 512],
+        count: 0,
+    };
     for part in parts {
-        text.extend_from_slice(part)?;
+        text.add(part);
     }
-    Ok(text)
+    text
 }
 
 // The line that has this place with its 0a, and what stands before and behind it.
@@ -34,23 +66,18 @@ fn around(text: &[u8], place: usize) -> (&[u8], &[u8], &[u8]) {
     (before, &text[start..head.len() + length], behind)
 }
 
-fn line_doubled(alloc: Global, text: &[u8], place: usize) -> Result<Vec<u8>, AllocError> {
+fn line_doubled(text: &[u8], place: usize) -> Text {
     let (before, line, behind) = around(text, place);
-    joined(alloc, &[before, line, line, behind])
+    joined(&[before, line, line, behind])
 }
 
-fn line_removed(alloc: Global, text: &[u8], place: usize) -> Result<Vec<u8>, AllocError> {
+fn line_removed(text: &[u8], place: usize) -> Text {
     let (before, _, behind) = around(text, place);
-    joined(alloc, &[before, behind])
+    joined(&[before, behind])
 }
 
 // The lines of two places change places, where they are two.
-fn lines_swapped(
-    alloc: Global,
-    text: &[u8],
-    one: usize,
-    other: usize,
-) -> Result<Vec<u8>, AllocError> {
+fn lines_swapped(text: &[u8], one: usize, other: usize) -> Text {
     let (before, first, rest) = around(text, one.min(other));
     match one
         .max(other)
@@ -58,43 +85,30 @@ fn lines_swapped(
     {
         Some(place) => {
             let (between, second, behind) = around(rest, place);
-            joined(alloc, &[before, second, between, first, behind])
+            joined(&[before, second, between, first, behind])
         }
-        None => joined(alloc, &[text]),
+        None => joined(&[text]),
     }
 }
 
-fn byte_inserted(
-    alloc: Global,
-    text: &[u8],
-    place: usize,
-    byte: u8,
-) -> Result<Vec<u8>, AllocError> {
+fn byte_inserted(text: &[u8], place: usize, byte: u8) -> Text {
     let (before, behind) = text.split_at(place.min(text.len()));
-    joined(alloc, &[before, &[byte], behind])
+    joined(&[before, &[byte], behind])
 }
 
-fn byte_removed(alloc: Global, text: &[u8], place: usize) -> Result<Vec<u8>, AllocError> {
+fn byte_removed(text: &[u8], place: usize) -> Text {
     let (before, behind) = text.split_at(place.min(text.len()));
-    joined(alloc, &[before, behind.get(1..).unwrap_or(&[])])
+    joined(&[before, behind.get(1..).unwrap_or(&[])])
 }
 
 // The text with bytes changed, this many times.
-fn bytes_changed(
-    alloc: Global,
-    text: &[u8],
-    times: u32,
-    draws: &mut Draws,
-) -> Result<Vec<u8>, AllocError> {
-    let mut left = joined(alloc, &[text])?;
+fn bytes_changed(text: &[u8], times: u32, draws: &mut Draws) -> Text {
+    let mut left = joined(&[text]);
     for _ in 0..times {
-        let place = place_of(draws.next(), left.len());
-        let byte = byte_of(draws.next());
-        if let Some(at) = left.get_mut(place) {
-            *at = byte;
-        }
+        let place = place_of(draws.next(), text.len());
+        left.change(place, byte_of(draws.next()));
     }
-    Ok(left)
+    left
 }
 
 // The kinds of damage.
@@ -128,24 +142,20 @@ impl Damage {
 }
 
 // The text with damage of a drawn kind.
-pub(crate) fn damaged(
-    alloc: Global,
-    text: &[u8],
-    draws: &mut Draws,
-) -> Result<Vec<u8>, AllocError> {
+pub(crate) fn damaged(text: &[u8], draws: &mut Draws) -> Text {
     let damage = Damage::of(draws.next());
     if let Damage::BytesChanged(times) = damage {
-        return bytes_changed(alloc, text, times, draws);
+        return bytes_changed(text, times, draws);
     }
     let place = place_of(draws.next(), text.len());
     let y = draws.next();
     match damage {
-        Damage::BytesChanged(_) => joined(alloc, &[text]),
-        Damage::Cut => joined(alloc, &[text.get(..place).unwrap_or(text)]),
-        Damage::LineDoubled => line_doubled(alloc, text, place),
-        Damage::LineRemoved => line_removed(alloc, text, place),
-        Damage::LinesSwapped => lines_swapped(alloc, text, place, place_of(y, text.len())),
-        Damage::ByteInserted => byte_inserted(alloc, text, place, byte_of(y)),
-        Damage::ByteRemoved => byte_removed(alloc, text, place),
+        Damage::BytesChanged(_) => joined(&[text]),
+        Damage::Cut => joined(&[text.get(..place).unwrap_or(text)]),
+        Damage::LineDoubled => line_doubled(text, place),
+        Damage::LineRemoved => line_removed(text, place),
+        Damage::LinesSwapped => lines_swapped(text, place, place_of(y, text.len())),
+        Damage::ByteInserted => byte_inserted(text, place, byte_of(y)),
+        Damage::ByteRemoved => byte_removed(text, place),
     }
 }

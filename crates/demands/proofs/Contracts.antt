@@ -6,12 +6,15 @@ use Rattle.rules.specs.ReadWrite.{read, write}
 use Rattle.bench.specs.declared.Bench.{Bench}
 use Rattle.bench.specs.declared.Reply.{Reply}
 use Rattle.play.specs.declared.Fed.{Fed}
-use Rattle.bench.specs.Plays.{IsEmpty, Returns}
+use Rattle.bench.specs.Plays.{IsEmpty, Returns, Became}
+use Rattle.marks.specs.declared.requests.Request as values
+use Rattle.marks.specs.Answers.{answer_number}
+use Rattle.marks.specs.Requests.{meant}
 use Rattle.lists.specs.declared.Request.{Request}
 use Rattle.lists.specs.declared.Played.{Played}
 use Rattle.lists.specs.Listed.{ReturnsOne, ReturnsList}
-use Rattle.play.specs.Feeding.{FedAs, ExplainedAs}
-use Rattle.play.specs.Finishing.{FinishedAs, FinishedExplainingAs}
+use Rattle.play.specs.Feeding.{FedAsBy, FedAs, ExplainedAs}
+use Rattle.play.specs.Finishing.{FinishedAsBy, FinishedAs, FinishedExplainingAs}
 use Rattle.bench.proofs.Bench.empty.Reads as of_empty
 use Rattle.bench.proofs.Bench.open_top.Reads as of_open_top
 use Rattle.bench.proofs.Bench.open_sub.Reads as of_open_sub
@@ -20,8 +23,12 @@ use Rattle.bench.proofs.Bench.write.Reads as of_write
 use Rattle.bench.proofs.Bench.commit.Reads as of_commit
 use Rattle.bench.proofs.Bench.abort.Reads as of_abort
 use Rattle.bench.proofs.Bench.quiet.Reads as of_quiet
+use Rattle.bench.proofs.Bench.make.Reads as of_make
+use Rattle.bench.proofs.Bench.request.Reads as of_request
 use Rattle.lists.proofs.play_one.Reads as of_one
 use Rattle.lists.proofs.play_array.Reads as of_array
+use Rattle.play.proofs.Player.tell.Reads as of_tell
+use Rattle.play.proofs.Player.finish_telling.Reads as of_finish_telling
 use Rattle.play.proofs.Player.feed.Reads as of_feed
 use Rattle.play.proofs.Player.explain.Reads as of_explain
 use Rattle.play.proofs.Player.finish.Reads as of_finish
@@ -53,6 +60,13 @@ module _ (b : Bench) (r : Reply) where
   pub quiet_ensures : (a i : ℕ) → of_quiet.Learnt tt (b, (a, (i, tt))) r (b, (a, (i, tt))) → Returns b (quiet a i) r
   quiet_ensures a i learnt = learnt
 
+  pub request_ensures : (q : values.Request) → of_request.Learnt tt (b, (q, tt)) r (b, (q, tt)) → Returns b (meant q) r
+  request_ensures q learnt = learnt
+
+-- In place it takes the record, which is another after the call.
+pub make_ensures : (κs : _) (lent : _) (r : _) (after : _) → of_make.Learnt κs lent r after → Became lent.0.now (meant lent.1.0) (answer_number r) after.0.now
+make_ensures κs lent r after learnt = learnt
+
 -- ---- requests by the list
 
 pub one_ensures : (b : Bench) (q : Request) (r : Reply) → of_one.Learnt tt (b, (q, tt)) r (b, (q, tt)) → ReturnsOne b q r
@@ -76,3 +90,10 @@ finish_ensures κs lent r after learnt = learnt
 
 pub finish_explaining_ensures : (κs : _) (lent : _) (r : Fed) (after : _) → of_finish_explaining.Learnt κs lent r after → FinishedExplainingAs lent.0 lent.1.0.now r after.1.0.now
 finish_explaining_ensures κs lent r after learnt = learnt
+
+-- Any way of telling lines, which the programs go through; the four above are two instances of it.
+pub tell_ensures : (t : _) (laws : _) (telling : _) (lawful : _) (κs : _) (lent : _) (r : Fed) (after : _) → of_tell.Learnt t laws telling lawful κs lent r after → FedAsBy telling.say telling.WIDTH lent.0 lent.1.0.now lent.1.1.0.now r after.1.1.0.now
+tell_ensures t laws telling lawful κs lent r after learnt = learnt
+
+pub finish_telling_ensures : (t : _) (laws : _) (telling : _) (lawful : _) (κs : _) (lent : _) (r : Fed) (after : _) → of_finish_telling.Learnt t laws telling lawful κs lent r after → FinishedAsBy telling.say telling.WIDTH lent.0 lent.1.0.now r after.1.0.now
+finish_telling_ensures t laws telling lawful κs lent r after learnt = learnt

@@ -1,4 +1,4 @@
--- Ends of lines that are found in the input, or not: what `next_end` gives with the values of all bytes is an end of a line, with what it asks. Assumes nothing.
+-- Ends of lines that are found in the input, or not: what `next_end` gives with the values of all bytes is an end of a line, with its frame. Assumes nothing.
 use mathlib.Core.Path.{◌≡◌}
 use mathlib.Core.Bool.{◌&&◌}
 use mathlib.Core.List.{List}
@@ -13,18 +13,18 @@ use Rattle.std.specs.Option.{option_or}
 use Rattle.digits.specs.Digits.{ValuesOfBytes}
 use Rattle.rules.specs.Requests as rules
 use Rattle.rules.proofs.Tests.{by_bool, and_left, and_right}
-use Rattle.marks.specs.declared.requests.Request.{Request}
 use Rattle.lines.specs.NextEnds.{EndsAs, pair_of}
 use Rattle.lines.proofs.WholeLines.{short_whole, long_whole, begun_ends}
+use Rattle.frames.specs.declared.Frame.{Frame}
 use Rattle.frames.specs.declared.ends.End.{End}
 use Rattle.frames.specs.Frames.{FrameOf}
 use Rattle.frames.specs.Ends.{pair_by, line_of, long_line, line_at, whole_line, begun_end, next_end, EndFound, NextEnd}
 use Rattle.frames.proofs.Framing.{short_framed, long_framed, held_framed}
 use Rattle.frames.proofs.Values.{Writes, pair_of_lem}
 
--- so many bytes end the line, and what it asks is known
-found : {count value : ℕ} {input : List ℕ} {at : ℕ} {r : math.Option rules.Request} {frame : Option Request} (size : ℕ) → FrameOf r frame → 0 < size →
-    at + size ≤ length input → EndsAs count value (take size (drop at input)) r → EndFound count value input at (record { asked = frame; size = size })
+-- so many bytes end the line, and its frame is known
+found : {count value : ℕ} {input : List ℕ} {at : ℕ} {r : math.Option rules.Request} {frame : Frame} (size : ℕ) → FrameOf r frame → 0 < size →
+    at + size ≤ length input → EndsAs count value (take size (drop at input)) r → EndFound count value input at (record { frame = frame; size = size })
 found size frame some within ends = record { some = some; within = within; ends = rw frame.makes ends }
 
 module _ (input : List ℕ) (at : ℕ) (room : at + 7 ≤ length input) where

@@ -1,4 +1,4 @@
--- Where a line ends in the input: what it asks, and how many bytes end it.
+-- Where a line ends in the input: its frame, and how many bytes end it.
 use Rattle.std.specs.Prelude.{◌&&◌, List, ◌≡◌, ℕ, ◌+◌, ◌-◌, ◌*◌, ◌≤◌, ◌<◌, Option, Some, None, MatchOption, eqb, leb, ltb, length, get_or, take, drop, if◌then◌else◌}
 use Rattle.std.specs.Option.{option_or}
 use Rattle.lines.specs.NextEnds.{EndsAs}
@@ -21,11 +21,11 @@ pair_by values high low =
 
 -- a whole line, where code, x and y are what its pairs of characters write: four digits whose fifth byte ends the line, or six whose seventh does
 abbrev pub short_line : ℕ → ℕ → Option End
-short_line code x = Some (record { asked = short_of code x; size = 5 })
+short_line code x = Some (record { frame = short_of code x; size = 5 })
 
 abbrev pub long_line : ℕ → ℕ → Option ℕ → ℕ → Option End
 long_line code x None seventh = None
-long_line code x (Some y) seventh = if eqb seventh 10 then Some (record { asked = long_of code x y; size = 7 }) else None
+long_line code x (Some y) seventh = if eqb seventh 10 then Some (record { frame = long_of code x y; size = 7 }) else None
 
 abbrev pub line_of : Option ℕ → Option ℕ → Option ℕ → ℕ → ℕ → Option End
 line_of None x y fifth seventh = None
@@ -45,7 +45,7 @@ whole_line values count value input at =
 
 -- the end of the line that has begun, where the next byte is it
 abbrev pub begun_end : ℕ → ℕ → List ℕ → ℕ → Option End
-begun_end count value input at = if eqb (get_or input at 0) 10 then Some (record { asked = held_frame count value; size = 1 }) else None
+begun_end count value input at = if eqb (get_or input at 0) 10 then Some (record { frame = held_frame count value; size = 1 }) else None
 
 -- the one or the other; none behind the input
 abbrev pub next_end : List ℕ → ℕ → ℕ → List ℕ → ℕ → Option End
@@ -54,11 +54,11 @@ next_end values count value input at =
 
 -- ---- what that means, with the values of all bytes
 
--- So many bytes from place `at` on end the line that has begun, with `count` digits that write `value`, and this is what it asks.
+-- So many bytes from place `at` on end the line that has begun, with `count` digits that write `value`, and this is its frame.
 pub record EndFound (count value : ℕ) (input : List ℕ) (at : ℕ) (end : End) : Type 0 where
   pub some : 0 < end.size
   pub within : at + end.size ≤ length input
-  pub ends : EndsAs count value (take end.size (drop at input)) (meant_by end.asked)
+  pub ends : EndsAs count value (take end.size (drop at input)) (meant_by end.frame.asked)
 
 -- An end that is found is one; and where none is found the next byte doesn't end the line.
 abbrev pub NextEnd : (count value : ℕ) (input : List ℕ) (at : ℕ) → Option End → Type 0

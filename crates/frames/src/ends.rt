@@ -2,13 +2,12 @@
 ghost use Rattle.std.specs.Prelude.{◌≡◌, ◌+◌, ◌≤◌, ◌<◌, length};
 ghost use Rattle.frames.specs.Ends.{pair_by, line_at, whole_line, begun_end, next_end};
 
-use crate::{Begun, long_frame, short_frame};
-use marks::requests::Request;
+use crate::{Begun, Frame, long_frame, short_frame};
 
-// The end of a line: what the line asks, if anything, and how many bytes of the input it takes.
+// The end of a line: its frame, and how many bytes of the input it takes.
 #[derive(Clone, Copy, Debug, PartialEq, Eq)]
 pub struct End {
-    pub asked: Option<Request>,
+    pub frame: Frame,
     pub size: usize,
 }
 
@@ -36,7 +35,7 @@ fn line_at(values: &[u8; 256], input: &[u8], at: usize) -> Option<End>
     let x = pair(values, input[at + 2], input[at + 3])?;
     if input[at + 4] == 10 {
         return Some(End {
-            asked: short_frame(code, x),
+            frame: short_frame(code, x),
             size: 5,
         });
     }
@@ -45,7 +44,7 @@ fn line_at(values: &[u8; 256], input: &[u8], at: usize) -> Option<End>
         return None;
     }
     Some(End {
-        asked: long_frame(code, x, y),
+        frame: long_frame(code, x, y),
         size: 7,
     })
 }
@@ -70,7 +69,7 @@ fn begun_end(begun: Begun, input: &[u8], at: usize) -> Option<End>
         return None;
     }
     Some(End {
-        asked: begun.frame(),
+        frame: begun.frame(),
         size: 1,
     })
 }

@@ -16,14 +16,14 @@ use std::marker::Model;
 use tree::each::{children_in, lines_in, running_in};
 
 // The children of each number, each number with its ancestors, and the running numbers, all as sets; the group of each head, and the places at which each number may
-// stand. Contracts speak of it as the 257 words of these parts.
-#[derive(Drop)]
+// stand. Contracts speak of it as the 257 words of these parts. The parts are public: any words make an index, of a sound bench or of none.
+#[derive(Clone, Drop)]
 pub struct Index {
-    children: [u64; 64],
-    lines: [u64; 64],
-    running: u64,
-    groups: [u64; 64],
-    places: [u64; 64],
+    pub children: [u64; 64],
+    pub lines: [u64; 64],
+    pub running: u64,
+    pub groups: [u64; 64],
+    pub places: [u64; 64],
 }
 
 impl Model for Index {

@@ -1,7 +1,7 @@
 -- What n digits write: the number lies below 16 to the n, and one digit more, as a loop that counts up adds it. And the bytes of a part of a text.
 use mathlib.Core.Path.{◌≡◌, refl, ◌∙◌}
-use mathlib.Core.List.{List}
-use mathlib.Core.Bool.{and_comm, and-true}
+use mathlib.Core.List.{List, [], ◌∷◌}
+use mathlib.Core.Bool.{Bool, ◌&&◌, and_comm, and_assoc, and-true}
 use Prim.Native.Nat.{ℕ, zero, suc, ◌+◌, ◌-◌, ◌*◌, ◌%◌, ◌^◌, ◌<◌, ◌≤◌}
 use native.Mathlib.Nat.{pow-le-pow_right}
 use native.Mathlib.Numerals.{add-one}
@@ -9,7 +9,7 @@ use native.Mathlib.Omega.{arith}
 use lib.Dec.{ltb}
 use lib.ListN.{length, get_or, take, drop, length-drop}
 use lib.Seq.{take-suc}
-use Rattle.std.specs.List.{list_all}
+use Rattle.std.specs.List.{fold, list_all}
 use Rattle.std.proofs.lemmas.Grind.{common_steps}
 use borrow.Author.Rules.{rules}
 use Rattle.std.proofs.lemmas.List.{get_or-take, get_or-drop}
@@ -17,6 +17,11 @@ use Rattle.std.proofs.lemmas.List.Folds.{list_all-append}
 use Rattle.rules.specs.Tests.{all}
 use Rattle.forms.specs.WellShaped.{digit_of, digits_at, number_at}
 use Rattle.forms.proofs.Hex.{number_fits}
+
+-- a pass that joins the test of each element tells whether all meet it
+pub all_joined : {A : Type 0} (test : A → Bool) (ok : Bool) (xs : List A) → fold (λ b x. b && test x) ok xs ≡ (ok && list_all test xs)
+all_joined test ok [] = rw and-true
+all_joined test ok (x ∷ xs) = rw (all_joined test (ok && test x) xs, and_assoc)
 
 module _ (text : List ℕ) (at : ℕ) where
   -- the part of n bytes from `at` on, and its bytes

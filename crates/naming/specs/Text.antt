@@ -1,6 +1,7 @@
 -- A reason as a line of text, and what is written for a line of a trace that is explained.
-use Rattle.std.specs.Prelude.{Bool, true, false, List, [], ◌∷◌, ◌++◌, ℕ, ◌/◌, ◌%◌, if◌then◌else◌}
+use Rattle.std.specs.Prelude.{Bool, true, false, List, [], ◌∷◌, ◌++◌, ℕ, ◌+◌, ◌-◌, ◌/◌, ◌%◌, length, replicate, if◌then◌else◌}
 use Rattle.std.proofs.Math.Option.{Option}
+use Rattle.std.proofs.lemmas.List.Edits.{sets}
 use Rattle.std.specs.Option.{option_map_or}
 use Rattle.digits.specs.Digits.{hex_digit}
 use Rattle.rules.specs.Bench as rules
@@ -10,6 +11,7 @@ use Rattle.rules.specs.Reasons.{reason_of}
 use Rattle.lines.specs.Bytes.{bytes_of}
 use Rattle.naming.specs.declared.Somebody.{Somebody}
 use Rattle.naming.specs.declared.Reason.{Reason}
+use Rattle.naming.specs.declared.text.Text.{Text}
 use Rattle.naming.specs.Told.{told}
 
 -- the two lowest digits of a number
@@ -38,6 +40,17 @@ reason_text r = two_digits r.answer ++ (option_map_or named_text r.names [] ++ b
 -- the longest text's length
 abbrev pub longest : ℕ
 longest = 23
+
+-- a text, and 0 behind it up to the longest
+abbrev pub padded : List ℕ → Text
+padded text = record { bytes = text ++ replicate (longest - length text) 0; size = length text }
+
+abbrev pub text_of : Reason → Text
+text_of r = padded (reason_text r)
+
+-- a text with a word behind it
+abbrev pub joined_to : Text → List ℕ → Text
+joined_to t word = record { bytes = sets t.bytes t.size word; size = t.size + length word }
 
 -- What is written for a line that is explained, from the bench before it.
 abbrev pub reason_line : rules.Bench → Option Request → List ℕ

@@ -67,7 +67,7 @@ fn naming(answer: Answer, somebody: Somebody) -> Reason
 
 // Whom an answer names that a line's request got, if the line made one, on the arrays that it left, with the readers and the writers of the instrument that it asks
 // for. Exact on any bytes; on those of a bench it is the rules' reason.
-pub fn named<'a>(
+pub fn named_of_request<'a>(
     parents: &'a [u8; 64],
     states: &'a [u8; 64],
     readers: u64,
@@ -99,7 +99,7 @@ pub fn named<'a>(
 
 // Whom an answer names that a frame got: the request by its code and two numbers, a spare one ignored, and the answer by its number. Of a code that makes no request
 // the first number is told and never the second, as of a commit. An answer that is no refusal's names nobody and keeps its number.
-pub fn named_by_code<'a>(
+pub fn named<'a>(
     parents: &'a [u8; 64],
     states: &'a [u8; 64],
     readers: u64,
@@ -118,5 +118,5 @@ pub fn named_by_code<'a>(
         };
     };
     let asked = Request::framed(code, x, y).unwrap_or(Request::Commit(x));
-    named(parents, states, readers, writers, Some(asked), Err(refusal))
+    named_of_request(parents, states, readers, writers, Some(asked), Err(refusal))
 }

@@ -1,25 +1,22 @@
--- A text that is copied into a buffer; and what is written for a line, an answer or an answer's reason, is what is said of the bench before it. Assumes nothing.
-use Rattle.std.specs.Prelude.{Option}
+-- A text that is copied into a buffer: an answer's, a digit, or an answer's reason's. Assumes nothing.
+use Rattle.std.specs.Prelude.{⊤, Result, Ok, Err}
 use borrow.Rule.Slice.PartMut.{put_mid}
-use mathlib.Core.Path.{◌≡◌, ◌∙◌, ap}
-use mathlib.Core.Bool.{Bool}
+use mathlib.Core.Path.{◌≡◌, refl, sym, ◌∙◌, ap}
 use mathlib.Core.List.{List}
-use Prim.Native.Nat.{ℕ, ◌+◌, ◌-◌, ◌%◌, ◌≤◌, ◌<◌}
+use Prim.Native.Nat.{ℕ, ◌+◌, ◌-◌, ◌≤◌, ◌<◌}
 use native.Mathlib.Omega.{arith}
-use lib.ListN.{length, get_or}
+use lib.ListN.{length, take}
 use lib.Seq.{sets}
 use Rattle.copies.proofs.CopyLaws.{put_part}
-use Rattle.lines.specs.Lines.{answer_text, answer_line}
-use Rattle.steps.proofs.Halves.{read_set_at, write_set_at}
-use Rattle.steps.proofs.RequestLaws.{framed_meant}
-use Rattle.marks.specs.declared.requests.Request.{Request}
-use Rattle.marks.specs.Requests.{meant_by, code_of, first_of, second_of}
-use Rattle.naming.specs.Blocking.{named_in}
-use Rattle.naming.specs.Text.{reason_text, reason_line}
-use Rattle.naming.proofs.Telling.{told_after}
-use Rattle.index.specs.Tables.{Table, table}
+use Rattle.marks.specs.declared.answers.Refusal.{Refusal}
+use Rattle.marks.specs.declared.answers.Refusal.TheVariants.{NoSuchAction, NoSuchInstrument, NotFree, NotRunning, HasRunningChild, NotGranted, Unsound, Malformed, NoRoom, NotDraining, TooLong}
+use Rattle.marks.specs.Answers.{refusal_number, answer_number}
+use Rattle.naming.specs.declared.Reason.{Reason}
+use Rattle.naming.specs.declared.text.Text.{Text}
+use Rattle.naming.specs.Text.{longest, reason_text, text_of}
+use Rattle.naming.proofs.Texts.{text_short, text_front}
 use Rattle.play.specs.Feeding.{PutAs}
-use Rattle.play.specs.Known.{feeding_in, LineDone}
+use Rattle.play.specs.Telling.{PutWithin}
 
 -- so much of a buffer holds the text that was copied there
 pub text_put : {out new text said : List ℕ} {at n : ℕ} → n ≡ length text → at + n ≤ length out → new ≡ text → text ≡ said → PutAs said out at (put_mid at (at + n - at) out new) (at + n)
@@ -30,14 +27,37 @@ text_put {out} {new} {text} {said} {at} size room same is =
       up_to = rw size (ap (λ (t : List ℕ). at + length t) is);
     }
 
-module _ {is_sound : Bool} {before : Table} (parents states owners index : List ℕ) (asked : Option Request) (answer : ℕ)
-    (done : LineDone is_sound (meant_by asked) before answer (table parents states owners index)) where
-  pub answer_said : answer_text answer ≡ answer_line (feeding_in before 0 0).bench (meant_by asked)
-  answer_said = ap (λ o. answer_text o.answer) done.ended.outcome
+-- the bytes of a reason's text
+pub text_small : (r : Reason) (text : Text) → text ≡ text_of r → text.size ≤ longest
+text_small r text e = rw e (text_short r)
 
-  pub reason_said : reason_text (named_in parents states (get_or owners (second_of asked % 128) 0) (get_or owners (128 + second_of asked % 128) 0) (code_of asked) (first_of asked) (second_of asked) answer)
-      ≡ reason_line (feeding_in before 0 0).bench (meant_by asked)
-  reason_said =
-      let at : second_of asked % 128 < 128 = omega arith in
-      rw (← read_set_at owners (second_of asked % 128) at, ← write_set_at owners (second_of asked % 128) at, ← framed_meant asked)
-      (ap reason_text (told_after (code_of asked) (first_of asked) (second_of asked) (rw (← framed_meant asked) at done.ended)))
+pub text_bytes : (r : Reason) (text : Text) → text ≡ text_of r → take text.size text.bytes ≡ reason_text r
+text_bytes r text e = rw e (text_front r)
+
+pub text_size : (r : Reason) (text : Text) → text ≡ text_of r → text.size ≡ length (take text.size text.bytes)
+text_size r text e = ap (λ (t : Text). t.size) e ∙ ap length (sym (text_bytes r text e))
+
+-- the room for a text, and none
+pub put_within : {width : ℕ} {text out out' : List ℕ} {at at' : ℕ} → at + width ≤ length out → PutAs text out at out' at' → PutWithin width text out at out' at'
+put_within room put = record { put = λ _. put; kept = λ none. absurd (omega arith) }
+
+pub none_put : {width : ℕ} {text out : List ℕ} {at : ℕ} → length out < at + width → PutWithin width text out at out at
+none_put none = record { put = λ room. absurd (omega arith); kept = λ _. (refl, refl) }
+
+-- an answer's number is a digit
+refusal_small : (refusal : Refusal) → refusal_number refusal < 16
+refusal_small NoSuchAction = omega arith
+refusal_small NoSuchInstrument = omega arith
+refusal_small NotFree = omega arith
+refusal_small NotRunning = omega arith
+refusal_small HasRunningChild = omega arith
+refusal_small NotGranted = omega arith
+refusal_small Unsound = omega arith
+refusal_small Malformed = omega arith
+refusal_small NoRoom = omega arith
+refusal_small NotDraining = omega arith
+refusal_small TooLong = omega arith
+
+pub answer_small : (answer : Result ⊤ Refusal) → answer_number answer < 16
+answer_small (Ok u) = omega arith
+answer_small (Err refusal) = refusal_small refusal

@@ -2,10 +2,13 @@
 use mathlib.Core.Path.{◌≡◌, sym, ◌∙◌, ap}
 use mathlib.Core.List.{List, ◌++◌}
 use mathlib.Core.Option.{Option}
-use Prim.Native.Nat.{ℕ}
-use lib.ListN.{take, drop}
+use Prim.Native.Nat.{ℕ, ◌+◌}
+use borrow.Author.Tests.{leb-true, leb-false}
+use lib.Dec.{leb}
+use lib.ListN.{length, take, drop}
 use Rattle.rules.specs.Bench as rules
 use Rattle.rules.specs.Requests.{Request}
+use Rattle.rules.proofs.Tests.{by_bool}
 use Rattle.lines.specs.Lines.{answer_line}
 use Rattle.lines.specs.Feeding.{said_by, taken_by}
 use Rattle.naming.specs.Text.{longest, reason_line}
@@ -13,6 +16,7 @@ use Rattle.bench.proofs.Unique.{Fits, view_injective}
 use Rattle.play.specs.declared.Player.{Player}
 use Rattle.play.specs.declared.Fed.{Fed}
 use Rattle.play.specs.Feeding.{feeding, FedAsBy, FedAs, ExplainedAs}
+use Rattle.play.specs.Telling.{PutWithin}
 
 -- A player is told by what it was fed.
 pub player_unique : (p q : Player) → Fits p.bench → Fits q.bench → feeding p ≡ feeding q → p ≡ q
@@ -37,3 +41,18 @@ fed_unique = fed_by_unique answer_line 3
 
 pub explained_unique : (p : Player) (input out : List ℕ) (x y : Fed) (out_x out_y : List ℕ) → Fits x.player.bench → Fits y.player.bench → ExplainedAs p input out x out_x → ExplainedAs p input out y out_y → (x ≡ y) × (out_x ≡ out_y)
 explained_unique = fed_by_unique reason_line longest
+
+-- Putting what is written for a line has one result, and leaves one content of the buffer.
+pub put_unique : (width : ℕ) (text out : List ℕ) (at x y : ℕ) (out_x out_y : List ℕ) → PutWithin width text out at out_x x → PutWithin width text out at out_y y → (x ≡ y) × (out_x ≡ out_y)
+put_unique width text out at x y out_x out_y ex ey =
+    by_bool (leb (at + width) (length out))
+    (λ t.
+    let room = leb-true (at + width) (length out) t in
+    let px = ex.put room in
+    let py = ey.put room in
+    (px.up_to ∙ sym py.up_to, px.wrote ∙ sym py.wrote))
+    (λ f.
+    let none = leb-false (at + width) (length out) f in
+    let kx = ex.kept none in
+    let ky = ey.kept none in
+    (kx.1 ∙ sym ky.1, kx.0 ∙ sym ky.0))

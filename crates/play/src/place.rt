@@ -75,12 +75,12 @@ fn feed_next<T: Telling>(
             ..place
         };
     };
-    let answer = end_line(parents, states, owners, index, end.asked);
+    let answer = end_line(parents, states, owners, index, end.frame.asked);
     let written = T::put(
         parents,
         states,
         owners,
-        end.asked,
+        end.frame.asked,
         answer,
         out,
         place.written,

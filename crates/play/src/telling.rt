@@ -1,5 +1,5 @@
 // What is written for a line that has ended: its answer, or its answer's reason.
-ghost use Rattle.std.specs.Prelude.{List, ℕ, ◌+◌, ◌≤◌, ◌<◌, length};
+ghost use Rattle.std.specs.Prelude.{List, ◌≡◌, ℕ, ◌+◌, ◌<◌, leb, length};
 ghost use Rattle.std.proofs.Common.{lit≤};
 ghost use Rattle.std.proofs.Math.Option.{Option};
 ghost use Rattle.rules.specs.Bench as rules;
@@ -9,13 +9,21 @@ ghost use Rattle.lines.specs.Lines.{answer_line};
 ghost use Rattle.lines.proofs.FeedLaws.{Within};
 ghost use Rattle.naming.specs.Text.{longest, reason_line};
 ghost use Rattle.naming.proofs.Texts.{reason_short};
-ghost use Rattle.play.specs.Telling.{PutAfter};
+ghost use Rattle.play.specs.Telling.{LineText, answer_after, reason_after, TextSaid, PutWithin};
+ghost use Rattle.play.specs.Saying.{answer_said, reason_said};
 
 use crate::owners::WRITES;
 use marks::answers::{Answer, number};
 use marks::requests::Request;
 use naming::text::text_of;
-use naming::{instrument_of, named};
+use naming::{instrument_of, named_of_request};
+
+// Whether a buffer has room for so many bytes from a place on.
+fn has_room(out: &[u8], at: usize, width: usize) -> bool
+    ensures { result ≡ leb (at + width) (length out.now) }
+{
+    width <= out.len() && at <= out.len() - width
+}
 
 // What is written for a line that has ended.
 pub trait Telling {
@@ -27,7 +35,10 @@ pub trait Telling {
     // As said of the bench before the line.
     ghost say: { rules.Bench → Option Request → List ℕ };
 
-    // Puts it at a place, from the arrays that the line left, and hands back where it ends.
+    // As it is written from the arrays that the line left.
+    ghost text: { LineText };
+
+    // Puts it at a place, from the arrays that the line left, and hands back where it ends. Where there may be no room for it, nothing is put.
     fn put<'a>(
         parents: &'a [u8; 64],
         states: &'a [u8; 64],
@@ -37,12 +48,13 @@ pub trait Telling {
         out: &mut [u8],
         at: usize,
     ) -> usize
-        requires { at + WIDTH ≤ length out.old }
-        ensures { PutAfter say parents.now states.now owners.now asked (answer_number answer) out.old at out.new result };
+        ensures { PutWithin WIDTH (text parents.now states.now owners.now asked (answer_number answer)) out.old at out.new result };
 
     ghost some: { 0 < WIDTH };
 
     ghost short: { Within say WIDTH };
+
+    ghost told: { TextSaid text say };
 }
 
 // The answer alone.
@@ -55,6 +67,8 @@ impl Telling for Answers {
 
     ghost say = { answer_line };
 
+    ghost text = { answer_after };
+
     fn put<'a>(
         parents: &'a [u8; 64],
         states: &'a [u8; 64],
@@ -64,6 +78,9 @@ impl Telling for Answers {
         out: &mut [u8],
         at: usize,
     ) -> usize {
+        if !has_room(out, at, 3) {
+            return at;
+        }
         let text = [b'0', digits::character(number(answer)), b'\n'];
         out[at..at + 3].copy_from_slice(&text);
         at + 3
@@ -72,6 +89,8 @@ impl Telling for Answers {
     ghost some = { lit≤ tt };
 
     ghost short = { λ b r. lit≤ tt };
+
+    ghost told = { answer_said };
 }
 
 // The answer's reason: whom it names, and for 6 how that one owns the instrument and whether it drains.
@@ -84,6 +103,8 @@ impl Telling for Reasons {
 
     ghost say = { reason_line };
 
+    ghost text = { reason_after };
+
     fn put<'a>(
         parents: &'a [u8; 64],
         states: &'a [u8; 64],
@@ -93,8 +114,11 @@ impl Telling for Reasons {
         out: &mut [u8],
         at: usize,
     ) -> usize {
+        if !has_room(out, at, 23) {
+            return at;
+        }
         let i = instrument_of(asked);
-        let text = text_of(named(
+        let text = text_of(named_of_request(
             parents,
             states,
             owners[i],
@@ -102,12 +126,14 @@ impl Telling for Reasons {
             asked,
             answer,
         ));
-        let end = at + text.len();
-        out[at..end].copy_from_slice(text.as_slice());
+        let end = at + text.size;
+        out[at..end].copy_from_slice(&text.bytes[..text.size]);
         end
     }
 
     ghost some = { lit≤ tt };
 
     ghost short = { reason_short };
+
+    ghost told = { reason_said };
 }

@@ -14,7 +14,7 @@ ghost use Rattle.naming.specs.Told.{told};
 use bench::Bench;
 use frame::answer_of;
 use marks::requests::Request;
-use naming::{Reason, instrument_of, named};
+use naming::{Reason, instrument_of, named_of_request};
 
 // Why the request of a frame gets its answer from this record: the frame's code and its two numbers, a spare one ignored. A code that is no request's
 // gets 8.
@@ -24,7 +24,7 @@ pub fn explain(bench: Bench, code: u8, x: u32, y: u32) -> Reason
     let asked = Request::framed(code, x, y);
     let answer = answer_of(bench, asked);
     let at = instrument_of(asked);
-    named(
+    named_of_request(
         &bench.parents,
         &bench.states,
         bench.reads[at],

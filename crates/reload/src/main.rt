@@ -4,10 +4,10 @@
 
 use marks::answers::{Refusal, number};
 use std::rt::Runtime;
-use streams::{Failed, Mark, read_full, write_whole};
+use streams::{Failure, Mark, read_full, write_whole};
 
 // Writes the answer's line.
-fn show<R: Runtime>(rt: &R, answer: u8) -> Result<(), Failed> {
+fn show<R: Runtime>(rt: &R, answer: u8) -> Result<(), Failure> {
     let line = [
         digits::character(answer / 16),
         digits::character(answer),
@@ -17,13 +17,13 @@ fn show<R: Runtime>(rt: &R, answer: u8) -> Result<(), Failed> {
 }
 
 // A refused text: its answer alone.
-fn refuse<R: Runtime>(rt: &R, answer: u8) -> Result<Mark, Failed> {
+fn refuse<R: Runtime>(rt: &R, answer: u8) -> Result<Mark, Failure> {
     show(rt, answer)?;
     Ok(Mark::Refused)
 }
 
 // Loads a text that was read whole, and tells what came of it.
-fn reload<R: Runtime>(rt: &R, text: &[u8]) -> Result<Mark, Failed> {
+fn reload<R: Runtime>(rt: &R, text: &[u8]) -> Result<Mark, Failure> {
     let loaded = saved::load(text);
     if loaded.answer != number(Ok(())) {
         return refuse(rt, loaded.answer);
@@ -36,7 +36,7 @@ fn reload<R: Runtime>(rt: &R, text: &[u8]) -> Result<Mark, Failed> {
 }
 
 // Reads the text and reloads it. One byte more than the longest text has: input that fills it is longer than any text.
-fn answer<R: Runtime>(rt: &R) -> Result<Mark, Failed> {
+fn answer<R: Runtime>(rt: &R) -> Result<Mark, Failure> {
     let mut text = [0u8; 5313];
     let read = read_full(rt, &mut text)?;
     if read == text.len() {

@@ -1,7 +1,7 @@
 // How a program says that it has ended, and how it went. A program whose first argument is `--mark` writes one character to descriptor 3 as the last thing
 // that it does. One that was not asked to writes none.
 use crate::waits::Patient;
-use crate::{Failed, unwritten};
+use crate::{Failure, unwritten};
 use std::fs::{OpenFile, OpenOptions};
 use std::io::{Eprint, ErrorKind, Write};
 use std::rt::{Clock, Env, Files};
@@ -24,13 +24,30 @@ pub enum Mark {
 }
 
 // Ends a program: what it wrote is held, and the mark is left.
-pub fn end<R: Files + Env + Eprint + Clock>(rt: &R, went: Result<Mark, Failed>) {
-    let held = went.and_then(|mark| hold(rt).map(|_| mark));
-    leave(rt, held.unwrap_or(Mark::Failed));
+pub fn end<R: Files + Env + Eprint + Clock>(rt: &R, went: Result<Mark, Failure>) {
+    match went.and_then(|mark| hold(rt).map(|_| mark)) {
+        Ok(mark) => leave(rt, mark),
+        Err(_) => failed(rt),
+    }
+}
+
+// Ends a program of which all was read and written.
+pub fn done<R: Files + Env + Eprint + Clock>(rt: &R) {
+    end(rt, Ok(Mark::Done));
+}
+
+// Ends one of which all was read and written, and the text was refused.
+pub fn refused<R: Files + Env + Eprint + Clock>(rt: &R) {
+    end(rt, Ok(Mark::Refused));
+}
+
+// Ends one that could not read or write something; a message has said what.
+pub fn failed<R: Files + Env + Clock>(rt: &R) {
+    leave(rt, Mark::Failed);
 }
 
 // Output counts as written once its file holds it, since some file systems fail only after the last write.
-fn hold<R: Files + Eprint>(rt: &R) -> Result<(), Failed> {
+fn hold<R: Files + Eprint>(rt: &R) -> Result<(), Failure> {
     match settle(rt) {
         Err(error) if !is_moot(error.kind()) => Err(unwritten(rt, &error)),
         _ => Ok(()),

@@ -8,7 +8,7 @@ ghost use Rattle.play.specs.Finishing.{FinishedAsBy};
 use play::telling::{Answers, Reasons, Telling};
 use play::{Fed, Player};
 use std::rt::Runtime;
-use streams::{Failed, Mark, end, read_some, write_whole};
+use streams::{Failure, Mark, end, read_some, write_whole};
 
 // Answers a trace.
 pub fn answer<R: Runtime>(rt: &R) {
@@ -41,7 +41,7 @@ fn turn<R: Runtime, T: Telling>(
     player: Player,
     input: &mut [u8],
     out: &mut [u8],
-) -> Result<Option<Player>, Failed>
+) -> Result<Option<Player>, Failure>
     requires room { length input.old ≤ length out.old / T.WIDTH }
 {
     let count = read_some(rt, input)?;

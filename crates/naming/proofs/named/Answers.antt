@@ -1,13 +1,9 @@
--- `named` meets its contract: 5 names the smallest running child. Assumes nothing.
-use Prim.Native.Nat.{ℕ, ◌+◌, ◌%◌}
-use Rattle.marks.specs.Requests.{first_of}
-use Rattle.naming.proofs.Blockers.{child_number}
+-- `named` meets its contract: the request that the frame makes names whom its code names. Assumes nothing.
+use Rattle.naming.proofs.Codes.{named_alike_by_code}
 use Rattle.naming.proofs.named.Goals as goal
 
-pub returns-in-HasRunningChild : goal.returns-in-HasRunningChild
-returns-in-HasRunningChild c =
+pub returns : goal.returns
+returns c =
     let a = c.args in
-    let child = c.first_child in
-    let parent : ℕ = first_of a.asked % 64 + 1 in
-    let found = rw c.first_number.ensures at child.ensures in
-    rw (c.naming-in-HasRunningChild.ensures, c.number_alone.ensures, c.unwrap_or-child.ensures, c.in-Err.is, c.in-HasRunningChild.is, child_number a.parents.now a.states.now parent child.result found.is found.first found.none)
+    rw (c.named_of_request.ensures, c.unwrap_or-asked.ensures, c.in-Ok.ensures)
+    (named_alike_by_code a.parents.now a.states.now a.readers a.writers a.x a.y a.answer a.code c.framed.result c.framed.ensures)

@@ -17,7 +17,7 @@ returns c =
     let q = c.framed-asked.result in
     let again = framed_again q in
     let same = again ∙ c.framed-asked.ensures in
-    rw c.instrument_of-at.ensures at c.named.ensures
+    rw c.instrument_of-at.ensures at c.named_of_request.ensures
     ∙ named_told b.parents b.states b.reads b.writes (code_of q) (first_of q) (second_of q) (answer_number c.answer_of-answer.result)
     (c.answer_of-answer.ensures ∙ ap (λ r. (reason_of read_write (viewed b) r).answer) (sym again))
     ∙ ap (λ r. told (reason_of read_write (viewed b) r)) same

@@ -52,7 +52,8 @@ returns g c =
     let after : Table = table_with new.parents new.states new.owners new.index in
     let done = c.end_line-answer.ensures.0 in
     let same = c.end_line-answer.ensures.1 in
-    let put = c.put-written.ensures (is_some a.index.now) before (unwrap_or new.index []) done in
+    let said = g.met.T.Telling.told (is_some a.index.now) before new.parents new.states new.owners (unwrap_or new.index []) c.in-Some.end.frame.asked _ done in
+    let put = rw said at c.put-written.ensures.put c.requires.2.room in
     record {
       on = fed_on refl (λ none. absurd (omega (arith, found.some))) found.within refl (line_said before after found.ends done put);
       known = rw same (record { table = done.ended.table; owners_long = done.owners_long; indexed = done.indexed });
