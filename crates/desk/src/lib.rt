@@ -27,7 +27,7 @@ fn request_of(kind: u32, x: u32, y: u32) -> Option<Request>
     Request::framed(code, x, y)
 }
 
-// A record's request is made on the arrays of a bench of which it is known whether it is sound.
+// A record's request is made on the arrays of a bench of which it is known whether it is sound. Where the record has none, nothing is asked of the bench.
 fn play_record(
     parents: &mut [u8; 64],
     states: &mut [u8; 64],
@@ -39,6 +39,9 @@ fn play_record(
     ensures { EntryDone is_sound (meant_by asked) (lent parents.old states.old owners.old)
         (answer_number result) (lent parents.new states.new owners.new) }
 {
+    if asked.is_none() {
+        return Err(Refusal::Malformed);
+    }
     if is_sound {
         return request(parents, states, owners, asked);
     }
@@ -46,6 +49,7 @@ fn play_record(
 }
 
 // All whole records of the words are played in their order, each on the bench that the one before it left.
+#[inline(never)] // keeps the stack that the C header states
 fn play_records(
     parents: &mut [u8; 64],
     states: &mut [u8; 64],

@@ -5,7 +5,9 @@
 ghost use Rattle.std.specs.Prelude.{◌≡◌, ◌++◌, true, ◌+◌, length};
 ghost use Rattle.image.specs.Image.{is_image, sound_image, empty_record, record_of, StoredAs, actions_in, actions_stored, unsound_answer, Requested};
 ghost use Rattle.marks.specs.Answers.{answer_number, refusal_number};
-ghost use Rattle.marks.specs.Requests.{meant_by, code_of};
+ghost use Rattle.marks.specs.Requests.{meant_by, code_of, first_of, second_of};
+ghost use Rattle.steps.specs.Arrays.{lent};
+ghost use Rattle.steps.specs.Steps.{Requested as Made};
 
 use bench::Bench;
 use copies::{put_words, words_from};
@@ -47,6 +49,21 @@ pub fn unsound_refusal(asked: Option<Request>) -> Refusal
     }
 }
 
+// The request on the arrays of a bench, in place.
+#[inline(never)] // keeps the stack that the C header states: the soundness test's isn't taken meanwhile
+fn make(
+    parents: &mut [u8; 64],
+    states: &mut [u8; 64],
+    owners: &mut [u64],
+    asked: Option<Request>,
+) -> Answer
+    ensures { Made (code_of asked) (first_of asked) (second_of asked)
+        (lent parents.old states.old owners.old) (answer_number result)
+        (lent parents.new states.new owners.new) }
+{
+    engine::request(parents, states, owners, asked)
+}
+
 // The request on the arrays of an image, in place.
 fn in_place(
     parents: &mut [u8; 64],
@@ -60,7 +77,7 @@ fn in_place(
     if !sound(parents, states, standing(owners)) {
         return Err(unsound_refusal(asked));
     }
-    engine::request(parents, states, owners, asked)
+    make(parents, states, owners, asked)
 }
 
 // Makes a request on an image in place; where there is none, that is malformed.

@@ -1,5 +1,6 @@
 pub mod Places
 pub mod Tables
+pub mod Given
 pub mod Making
 pub mod Families
 pub mod Kept

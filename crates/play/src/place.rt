@@ -9,7 +9,7 @@ ghost use Rattle.marks.specs.Requests.{meant_by};
 ghost use Rattle.play.specs.Known.{table_with, KnownTable, LineDone};
 ghost use Rattle.play.specs.Places.{feeding_at, GoesOn, FedTo};
 
-use crate::telling::Telling;
+use crate::telling::{Telling, has_room};
 use frames::Begun;
 use frames::ends::next_end;
 use index::Index;
@@ -75,6 +75,10 @@ fn feed_next<T: Telling>(
             ..place
         };
     };
+    // There is room (`GoesOn`). That is asked here too, before there is an answer: `put` then asks nothing, and an answer's digit is known where the answer is.
+    if !has_room(out, place.written, T::WIDTH) {
+        return place;
+    }
     let answer = end_line(parents, states, owners, index, end.frame.asked);
     let written = T::put(
         parents,

@@ -19,7 +19,7 @@ use naming::text::text_of;
 use naming::{instrument_of, named_of_request};
 
 // Whether a buffer has room for so many bytes from a place on.
-fn has_room(out: &[u8], at: usize, width: usize) -> bool
+pub(crate) fn has_room(out: &[u8], at: usize, width: usize) -> bool
     ensures { result ≡ leb (at + width) (length out.now) }
 {
     width <= out.len() && at <= out.len() - width

@@ -155,6 +155,7 @@ fn ask_looked_up<'a>(
 }
 
 // A request, for a caller that keeps nothing beside the arrays; where there is none, that is malformed.
+#[inline(always)] // so that the loop over a list tells a kind apart once
 pub fn request(
     parents: &mut [u8; 64],
     states: &mut [u8; 64],

@@ -17,4 +17,4 @@ returns c =
     let a = c.args in
     let read = halves_read a.parents.now a.states.now a.owners.now (search rules) (search rules) c.requires in
     let arrays = read_arrays read c.sound.result (read_sound read c.standing.result c.standing.ensures c.sound.ensures) (ap not c.if-not-sound.false) in
-    stepped_requested read a.asked c.request.ensures arrays refl
+    stepped_requested read a.asked c.make.ensures arrays refl
