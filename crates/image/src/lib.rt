@@ -50,7 +50,7 @@ pub fn unsound_refusal(asked: Option<Request>) -> Refusal
 }
 
 // The request on the arrays of a bench, in place.
-#[inline(never)] // keeps the stack that the C header states: the soundness test's isn't taken meanwhile
+#[inline(never)] // keeps the stack that the C header states: its frame isn't taken during the soundness test
 fn make(
     parents: &mut [u8; 64],
     states: &mut [u8; 64],
